@@ -1,0 +1,17 @@
+pub mod Image
+pub mod Table
+pub mod Channels
+pub mod Outcomes
+pub mod Registers
+pub mod Sources
+pub mod Triggers
+pub mod Requests
+pub mod Transfer
+pub mod Arbitration
+pub mod Return
+pub mod Steps
+pub mod Runs
+pub mod Answers
+pub mod Promises
+pub mod Examples
+pub mod Waiting

@@ -1,0 +1,63 @@
+-- The public promises by name: what a call answers and leaves of the lent image, in the rules' words, for every image, list and argument.
+-- Assumes nothing.
+use mathlib.Core.Path.{_≡_}
+use mathlib.Core.List.{List}
+use Prim.Native.Nat.{ℕ}
+use Rattle.rules.specs.declared.Channel.{Channel}
+use Rattle.rules.specs.declared.Trigger.{Trigger}
+use Rattle.rules.specs.declared.Step.{Step}
+use Rattle.rules.specs.declared.Step.the-variants as step
+use Rattle.rules.specs.declared.Answer.{Answer}
+use Rattle.rules.specs.declared.Verdict.{Verdict}
+use Rattle.rules.specs.declared.Ran.{Ran}
+use Rattle.rules.specs.declared.Waited.{Waited}
+use Rattle.rules.specs.Image.{Image, state}
+use Rattle.rules.specs.Registers.{viewOf, viewVerdict}
+use Rattle.rules.specs.Steps.{stepOf, decodeOf, stepsOf}
+use Rattle.rules.specs.Runs.{runOf, waitOf}
+use Rattle.rules.specs.Answers.{told, toldVerdict, toldRun, toldWait}
+
+-- one step answers a and leaves `after`
+abbrev pub Does : Image → List Channel → Step → Answer → Image → Type 0
+Does before cs x a after = (told a ≡ told (stepOf (state before) cs x .answer)) × (after ≡ stepOf (state before) cs x .state .image)
+
+-- a read leaves the image as it was
+abbrev pub Reads : Image → List Channel → ℕ → Answer → Type 0
+Reads before cs r a = Does before cs (step.Read r) a before
+
+abbrev pub Writes : Image → List Channel → ℕ → ℕ → Answer → Image → Type 0
+Writes before cs r v a after = Does before cs (step.Write r v) a after
+
+abbrev pub Triggers : Image → List Channel → Trigger → Answer → Image → Type 0
+Triggers before cs t a after = Does before cs (step.Trigger t) a after
+
+abbrev pub Arbitrates : Image → List Channel → Answer → Image → Type 0
+Arbitrates before cs a after = Does before cs step.Arbitrate a after
+
+abbrev pub Returns : Image → List Channel → Answer → Image → Type 0
+Returns before cs a after = Does before cs step.Return a after
+
+abbrev pub Resets : Image → List Channel → Answer → Image → Type 0
+Resets before cs a after = Does before cs step.Reset a after
+
+-- the step that a word stands for
+abbrev pub DoesWord : Image → List Channel → ℕ → Answer → Image → Type 0
+DoesWord before cs w a after = Does before cs (decodeOf w) a after
+
+-- a run of a list of words
+abbrev pub Runs : Image → List Channel → List ℕ → Ran → Image → Type 0
+Runs before cs words r after =
+    (toldRun r ≡ toldRun (runOf (state before) cs (stepsOf words) .answer)) × (after ≡ runOf (state before) cs (stepsOf words) .state .image)
+
+-- a wait report for a source over a list of words
+abbrev pub Waits : Image → List Channel → ℕ → List ℕ → Waited → Image → Type 0
+Waits before cs source words w after =
+    (toldWait w ≡ toldWait (waitOf (state before) cs source (stepsOf words) .answer))
+    × (after ≡ waitOf (state before) cs source (stepsOf words) .state .image)
+
+-- the view of a page, and the number of a refused view
+abbrev pub Views : Image → ℕ → List ℕ → Type 0
+Views before p part = part ≡ viewOf before p
+
+abbrev pub ViewRefuses : Image → ℕ → Verdict → Type 0
+ViewRefuses before p v = toldVerdict v ≡ toldVerdict (viewVerdict before p)

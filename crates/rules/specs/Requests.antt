@@ -1,0 +1,62 @@
+-- Document 01, "Arbitration", rules 3 to 5: who requests what, what is eligible, and the winner.
+-- Assumes nothing.
+use mathlib.Core.Bool.{Bool, true, false, cond, _&&_}
+use mathlib.Core.List.{List}
+use Prim.Native.Nat.{ℕ, zero, suc}
+use lib.Dec.{eqb, ltb}
+use Rattle.rules.specs.declared.Channel.{Channel}
+use Rattle.rules.specs.declared.Request.{Request}
+use Rattle.rules.specs.declared.Request.the-variants as request
+use Rattle.rules.specs.declared.Winner.{Winner}
+use Rattle.rules.specs.declared.Winner.the-variants as winner
+use Rattle.rules.specs.Image.{Image, has, IEN, CPL}
+use Rattle.rules.specs.Sources.{sources, pending, unmasked, dmaEnabled, level}
+
+-- rule 3: a pending source requests DMA if that is enabled, else an interrupt if it is unmasked, else nothing
+unfoldable pub requestOf : Image → List Channel → ℕ → Request
+requestOf m cs s =
+    cond (pending m cs s)
+    (cond (dmaEnabled m cs s) (request.Dma (level m cs s)) (cond (unmasked m cs s) (request.Interrupt (level m cs s)) request.Nothing))
+    request.Nothing
+
+-- rule 4: the level number is strictly below CPL and, for an interrupt, IEN = 1 (house reading: DMA whatever IEN is)
+unfoldable pub eligible : Image → Request → Bool
+eligible m request.Nothing = false
+eligible m (request.Dma l) = ltb l (CPL m)
+eligible m (request.Interrupt l) = has m IEN && ltb l (CPL m)
+
+-- the request is of this level and kind: 0 DMA, 1 interrupt
+unfoldable pub isAt : ℕ → ℕ → Request → Bool
+isAt l kind request.Nothing = false
+isAt l kind (request.Dma x) = eqb kind 0 && eqb x l
+isAt l kind (request.Interrupt x) = eqb kind 1 && eqb x l
+
+-- the winner of this level, kind and position
+unfoldable pub wonBy : ℕ → ℕ → ℕ → Winner
+wonBy l kind s = cond (eqb kind 0) (winner.Dma s) (winner.Interrupt s l)
+
+-- what is found at a level, a kind and a position
+unfoldable pub candidate : Image → List Channel → ℕ → ℕ → ℕ → Winner
+candidate m cs l kind s = cond (eligible m (requestOf m cs s) && isAt l kind (requestOf m cs s)) (wonBy l kind s) winner.Nobody
+
+abbrev pub orElse : Winner → Winner → Winner
+orElse winner.Nobody other = other
+orElse (winner.Dma s) other = winner.Dma s
+orElse (winner.Interrupt s l) other = winner.Interrupt s l
+
+-- the first of f 0, f 1, .. f (n - 1) that is somebody
+unfoldable pub first : ℕ → (ℕ → Winner) → Winner
+first zero f = winner.Nobody
+first (suc n) f = let last = f n in orElse (first n f) last
+
+-- rule 5: positions from 0 up,
+unfoldable pub winnerOfKind : Image → List Channel → ℕ → ℕ → Winner
+winnerOfKind m cs l kind = first (sources cs) (candidate m cs l kind)
+
+-- within a level DMA before interrupt,
+unfoldable pub winnerAtLevel : Image → List Channel → ℕ → Winner
+winnerAtLevel m cs l = first 2 (winnerOfKind m cs l)
+
+-- and levels from 0 up: the first eligible request wins
+unfoldable pub winnerOf : Image → List Channel → Winner
+winnerOf m cs = first 8 (winnerAtLevel m cs)

@@ -1,0 +1,28 @@
+-- Document 01, "Arbitration": the return. Assumes nothing.
+use mathlib.Core.Bool.{Bool, true, false, cond}
+use Prim.Native.Nat.{ℕ, zero, suc}
+use lib.Dec.{ltb}
+use lib.ListN.{set}
+use Rattle.rules.specs.declared.Answer.the-variants as answer
+use Rattle.rules.specs.Image.{Image, has, put, putCPL, inService, HL, IAM, IEN, MARK}
+use Rattle.rules.specs.Outcomes.{Change, change}
+
+-- the smallest x below n of which p holds, n where there is none
+unfoldable pub smallest : ℕ → (ℕ → Bool) → ℕ
+smallest zero p = 0
+smallest (suc n) p = cond (p 0) 0 (suc (smallest n (λ x. p (suc x))))
+
+-- the smallest x whose HLx is set, 7 with no HL bit set (house reading)
+unfoldable pub restoredLevel : Image → ℕ
+restoredLevel m = smallest 7 (λ x. has m (HL x))
+
+-- in nested mode CPL becomes that level, and that bit is cleared
+unfoldable pub unnested : Image → Image
+unnested m = putCPL (cond (ltb (restoredLevel m) 7) (put m (HL (restoredLevel m)) false) m) (restoredLevel m)
+
+-- if the mark is set it is cleared and nothing else changes; otherwise IEN is set
+unfoldable pub returned : Image → Image
+returned m = cond (inService m) (set m MARK 0) (put (cond (has m IAM) (unnested m) m) IEN true)
+
+unfoldable pub returnOf : Image → Change
+returnOf m = change answer.Returned (returned m)

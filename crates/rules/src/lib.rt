@@ -1,0 +1,133 @@
+// The types that every crate of the model shares.
+
+// A channel record: its page, the registers there of its IDCR, IVR, DCPR, DAPR and data, and the direction of its transfers
+// (0: peripheral to register file, 1: the reverse).
+pub struct Channel {
+    pub page: u8,
+    pub idcr: u8,
+    pub ivr: u8,
+    pub dcpr: u8,
+    pub dapr: u8,
+    pub io: u8,
+    pub direction: u8,
+}
+
+// A channel list by value: the first `count` of the items. A count over twelve stands for a list that is too long.
+pub struct Channels {
+    pub items: [Channel; 12],
+    pub count: usize,
+}
+
+// A row of the register table: the bits that exist, the bits that reset changes, and what it makes of them.
+pub struct Row {
+    pub existing: u8,
+    pub reset: u8,
+    pub value: u8,
+}
+
+// Where a register number goes: a byte of the image with the bits that exist there, or nowhere.
+pub enum Place {
+    At(usize, u8),
+    Unmodelled,
+}
+
+// The reasons for a refusal, numbers 1 to 7 of document 01 in order.
+pub enum Refusal {
+    Length,
+    List,
+    Register,
+    Number,
+    Memory,
+    Pointer,
+    Kind,
+}
+
+// Whether what is lent, or what is asked for, is accepted.
+pub enum Verdict {
+    Accepted,
+    Refused(Refusal),
+}
+
+// What a trigger did to a pending bit.
+pub enum Effect {
+    NotSelected,
+    Raised,
+    Merged,
+}
+
+// Directions of an edge: 0 falling, 1 rising.
+pub enum Trigger {
+    Pin { pin: u32, direction: u8 },
+    Watchdog,
+    Nmi { direction: u8 },
+    Request { record: u32 },
+    Unknown,
+}
+
+// What a source asks for, with its level.
+pub enum Request {
+    Nothing,
+    Dma(u8),
+    Interrupt(u8),
+}
+
+// The request that arbitration chose.
+pub enum Winner {
+    Nobody,
+    Dma { source: u8 },
+    Interrupt { source: u8, level: u8 },
+}
+
+// One step of a run.
+pub enum Step {
+    Read(u32),
+    Write(u32, u8),
+    Trigger(Trigger),
+    Arbitrate,
+    Return,
+    Reset,
+    Unknown,
+}
+
+// The pending bits that a write took from 1 to 0.
+pub struct Losses {
+    pub eipr: u8,
+}
+
+// What a step answers. A trigger answers for the maskable bit, then for TLIP. `NoStep` is the last answer of an empty run.
+pub enum Answer {
+    NoStep,
+    Byte(u8),
+    Written(Losses),
+    Triggered(Effect, Effect),
+    Nothing,
+    TopLevel,
+    Interrupt { source: u8, level: u8, vector: u8 },
+    Transferred { source: u8, ended: bool },
+    Returned,
+    Reset,
+    Refused(Refusal),
+}
+
+// What a run answers: refused before any step, refused at a step, or the steps done and the last answer.
+pub enum Ran {
+    Refused(Refusal),
+    RefusedAt { refusal: Refusal, index: usize },
+    Done { steps: usize, last: Answer },
+}
+
+// What a wait report answers, with the arbitrations made.
+pub enum Waited {
+    Refused(Refusal),
+    RefusedAt {
+        refusal: Refusal,
+        index: usize,
+        arbitrations: usize,
+    },
+    Ended {
+        arbitrations: usize,
+    },
+    Acknowledged {
+        arbitrations: usize,
+    },
+}
