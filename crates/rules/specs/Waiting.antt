@@ -36,7 +36,7 @@ count (suc n) p = one (p n) + count n p
 
 -- how many sources of a set are pending
 unfoldable pub pendingOf : Image → List Channel → (ℕ → Bool) → ℕ
-pendingOf m cs set = count (sources cs) (λ k. pending m cs k && set k)
+pendingOf m cs among = count (sources cs) (λ k. pending m cs k && among k)
 
 abbrev pub H : Image → List Channel → ℕ → ℕ
 H m cs s = pendingOf m cs (rival m cs s)
@@ -54,16 +54,16 @@ selectedBy m step.Reset = none
 selectedBy m step.Unknown = none
 
 abbrev pub within : (ℕ → Bool) → Option ℕ → Bool
-within set none = false
-within set (some k) = set k
+within among none = false
+within among (some k) = among k
 
 -- the event is a trigger of a source of the set, and not refused
 abbrev pub triggers : (ℕ → Bool) → Event → Bool
-triggers set e = not (eventRefused e) && within set (selectedBy (e .before .image) (e .step))
+triggers among e = not (eventRefused e) && within among (selectedBy (e .before .image) (e .step))
 
 unfoldable pub triggersOf : (ℕ → Bool) → List Event → ℕ
-triggersOf set [] = 0
-triggersOf set (e ∷ es) = one (triggers set e) + triggersOf set es
+triggersOf among [] = 0
+triggersOf among (e ∷ es) = one (triggers among e) + triggersOf among es
 
 -- the set is the one at the start m: no step of such a list changes a mask or a level
 abbrev pub E : Image → List Channel → ℕ → List Event → ℕ
