@@ -4,7 +4,9 @@ use mathlib.Core.Path.{_≡_, refl, sym, ap, ap₂, _∙_}
 use mathlib.Core.Logic.{_≢_}
 use mathlib.Core.Bool.{Bool, true, false, cond, not, _&&_, _||_}
 use Prim.Native.Nat.{ℕ, zero, suc, _+_, _-_, _*_, _/_, _%_, _^_, _≤_, _<_, min, max}
-use native.Mathlib.Nat.{mod-lt, mod-mod, zero-lt-suc}
+use native.Mathlib.Nat.{mod-lt, mod-mod, zero-lt-suc, add-sub-of-le}
+use lib.Arith.{digits-div}
+use lib.Pow.{shr-shr}
 use native.Mathlib.Omega.{arith}
 use lib.Dec.{T, eqb, leb, eqb→eq}
 use lib.Bits.{bitAnd, bitOr, and-step, or-step, or-shr, or-mod, and-shr, and-mod, or-zero-r, and-mask, and-lt, or-lt}
@@ -142,3 +144,14 @@ pub low-same : (n k : ℕ) (v : Bool) (b : ℕ) → n ≤ k → k < 8 → putBit
 unfolding putBit
 low-same n k true b l h = or-mod b (2 ^ k) n ∙ ap (bitOr (b % 2 ^ n)) (low-masks n k l h .0) ∙ or-zero-r (b % 2 ^ n)
 low-same n k false b l h = and-mod b (255 - 2 ^ k) n ∙ ap (bitAnd (b % 2 ^ n)) (low-masks n k l h .1) ∙ and-mask (b % 2 ^ n) n ∙ mod-mod b (2 ^ n)
+
+-- ---- a bit above the low field, where the n low bits are replaced
+
+shr-same : (n k b l : ℕ) → n ≤ k → l < 2 ^ n → (b / 2 ^ n * 2 ^ n + l) / 2 ^ k ≡ b / 2 ^ k
+shr-same n k b l h g =
+    let by : (x : ℕ) → x / 2 ^ k ≡ x / 2 ^ n / 2 ^ (k - n) = λ x. ap (λ (i : ℕ). x / 2 ^ i) (sym (add-sub-of-le h)) ∙ sym (shr-shr x n (k - n)) in
+    by (b / 2 ^ n * 2 ^ n + l) ∙ ap (λ (x : ℕ). x / 2 ^ (k - n)) (digits-div (b / 2 ^ n) g) ∙ sym (by b)
+
+pub high-same : (n k b l : ℕ) → n ≤ k → l < 2 ^ n → bit k (b / 2 ^ n * 2 ^ n + l) ≡ bit k b
+unfolding bit digit
+high-same n k b l h g = ap (λ (x : ℕ). eqb (x % 2) 1) (shr-same n k b l h g)

@@ -1,1 +1,4 @@
+pub mod Bools
+pub mod ImageLaws
+pub mod ChannelLaws
 pub mod ExamplesHold
