@@ -1,6 +1,6 @@
 -- Laws of bits, each once for every bit and every byte: a put bit reads back, the others stay, the bits of an and, an or and a complement,
 -- the low field, the bounds. Assumes nothing.
-use mathlib.Core.Path.{_≡_, refl, sym, ap, ap₂, _∙_}
+use mathlib.Core.Path.{_≡_, refl, sym, ap, _∙_}
 use mathlib.Core.Logic.{_≢_}
 use mathlib.Core.Bool.{Bool, true, false, cond, not, _&&_, _||_}
 use Prim.Native.Nat.{ℕ, zero, suc, _+_, _-_, _*_, _/_, _%_, _^_, _≤_, _<_, min, max}
@@ -12,7 +12,7 @@ use lib.Dec.{T, eqb, leb, eqb→eq}
 use lib.Bits.{bitAnd, bitOr, and-step, or-step, or-shr, or-mod, and-shr, and-mod, or-zero-r, and-mask, and-lt, or-lt}
 use borrow.Author.Tests.{eq-eqb, ne-eqb, le-leb}
 use Rattle.bits.specs.Bits.{digit, bit, putBit}
-use Rattle.bits.proofs.Tests.{every, passes, passes₂, same-below}
+use Rattle.bits.proofs.Tests.{every, passes₂, same-below}
 
 -- ---- a digit is 0 or 1, and the test tells which
 

@@ -1,5 +1,5 @@
 -- What is at a place of the image, and of its bits, after a byte is set, a bit is put, or CPL is put. Assumes nothing.
-use mathlib.Core.Path.{_≡_, refl, sym, ap, _∙_}
+use mathlib.Core.Path.{_≡_, ap, _∙_}
 use mathlib.Core.Logic.{_⊎_, inl, inr, _≢_}
 use mathlib.Core.Bool.{Bool, true, false}
 use Prim.Native.Nat.{ℕ, _+_, _*_, _/_, _%_, _≤_, _<_}
@@ -11,7 +11,7 @@ use lib.Seq.{getD-set-same, getD-set-other, set-out}
 use borrow.Author.Tests.{ltb-true, ltb-false}
 use Rattle.bits.specs.Bits.{bit, putBit}
 use Rattle.bits.proofs.BitLaws.{bit-same, bit-other, low-same, high-same}
-use Rattle.rules.specs.Image.{Image, at, Bit, bitOf, has, put, putCPL, CPL, CICR}
+use Rattle.rules.specs.Image.{Image, at, Bit, has, put, putCPL, CPL, CICR}
 use Rattle.rules.proofs.Bools.{true-or}
 
 -- ---- a byte that is set

@@ -1,4 +1,5 @@
 pub mod Bools
 pub mod ImageLaws
 pub mod ChannelLaws
+pub mod WinnerLaws
 pub mod ExamplesHold

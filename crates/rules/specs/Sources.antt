@@ -1,7 +1,7 @@
 -- Document 01, "Arbitration" and "Runs and the wait report": the sources, and what each has pending, unmasked and at which level.
 -- Sources 0 to 7 are the external channels INTA0, INTA1, INTB0 .. INTD1; source 8 + k is record k.
 -- Assumes nothing.
-use mathlib.Core.Bool.{Bool, true, false, cond}
+use mathlib.Core.Bool.{Bool, false, cond}
 use mathlib.Core.List.{List}
 use Prim.Native.Nat.{ℕ, _+_, _-_, _*_, _/_, _%_}
 use lib.Dec.{ltb}

@@ -1,6 +1,6 @@
 -- Document 01, "Runs and the wait report" and "Refusal numbers": one step of the six kinds, and the word that stands for a step.
 -- Assumes nothing.
-use mathlib.Core.Bool.{Bool, true, false, cond}
+use mathlib.Core.Bool.{cond}
 use mathlib.Core.List.{List, [], _∷_}
 use Prim.Native.Nat.{ℕ, _/_, _%_, _^_}
 use lib.Dec.{eqb}

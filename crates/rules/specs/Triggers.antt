@@ -15,7 +15,7 @@ use Rattle.rules.specs.declared.Answer.the-variants as answer
 use Rattle.rules.specs.declared.Refusal.the-variants as refusal
 use Rattle.rules.specs.declared.Verdict.{Verdict}
 use Rattle.rules.specs.declared.Verdict.the-variants as verdict
-use Rattle.rules.specs.Image.{Image, Bit, bitOf, has, put, EITR, TLIP, TLTEV, TLIS, IAOS}
+use Rattle.rules.specs.Image.{Image, bitOf, has, put, EITR, TLIP, TLTEV, TLIS, IAOS}
 use Rattle.rules.specs.Outcomes.{Change, change, refuse}
 use Rattle.rules.specs.Sources.{pendingBit, pending}
 
