@@ -3,7 +3,7 @@
 use mathlib.Core.Path.{_≡_, refl, sym, ap, _∙_}
 use mathlib.Core.Logic.{_⊎_, inl, inr}
 use mathlib.Core.List.{List}
-use mathlib.Core.Bool.{Bool, true, false, false≢true, cond, _&&_}
+use mathlib.Core.Bool.{Bool, true, false, cond, _&&_}
 use Prim.Native.Nat.{ℕ, zero, suc, _<_}
 use native.Mathlib.Omega.{arith}
 use native.Mathlib.Nat.{not-suc-le-zero, le-refl}
@@ -11,15 +11,14 @@ use native.Mathlib.Decide.{ℕ-discrete}
 use lib.Dec.{eqb, ltb}
 use borrow.Author.Tests.{ltb-true, eqb-true, lt-ltb, eq-eqb}
 use Rattle.rules.specs.declared.Channel.{Channel}
-use Rattle.rules.specs.declared.Request.{Request}
-use Rattle.rules.specs.declared.Request.the-variants as request
 use Rattle.rules.specs.declared.Winner.{Winner}
 use Rattle.rules.specs.declared.Winner.the-variants as winner
 use Rattle.rules.specs.Image.{Image, at, has, IEN, CPL}
 use Rattle.rules.specs.Sources.{sources, pending, unmasked, dmaEnabled, level}
 use Rattle.rules.specs.Requests.{requestOf, eligible, isAt, wonBy, candidate, orElse, first, winnerOfKind, winnerAtLevel, winnerOf}
 use Rattle.rules.specs.Waiting.{outranks}
-use Rattle.rules.proofs.Bools.{and-l, and-r, or-cases, not-both}
+use Rattle.rules.proofs.RequestLaws.{eligible-dma, eligible-interrupt, is-dma, is-interrupt, is-kind, dma-request, interrupt-request}
+use Rattle.rules.proofs.Bools.{impossible, and-l, and-r, or-cases, not-both}
 
 -- ---- the first that is somebody
 
@@ -27,10 +26,10 @@ abbrev Somebody : Winner → Type 0
 Somebody w = w ≡ winner.Nobody → ⊥
 
 dma-somebody : (s : ℕ) → Somebody (winner.Dma s)
-dma-somebody s e = let z : _≡_ {A = ℕ} 0 1 = cc in omega arith
+dma-somebody s e = impossible (cc)
 
 interrupt-somebody : (s l : ℕ) → Somebody (winner.Interrupt s l)
-interrupt-somebody s l e = let z : _≡_ {A = ℕ} 0 1 = cc in omega arith
+interrupt-somebody s l e = impossible (cc)
 
 or-none : (a b : Winner) → orElse a b ≡ winner.Nobody → (a ≡ winner.Nobody) × (b ≡ winner.Nobody)
 or-none winner.Nobody b e = (refl, e)
@@ -79,19 +78,47 @@ pub record Asks (m : Image) (cs : List Channel) (l k p : ℕ) : Type 0 where
 abbrev pub Precedes : ℕ → ℕ → ℕ → ℕ → ℕ → ℕ → Type 0
 Precedes l k p l′ k′ p′ = (l < l′) ⊎ ((l ≡ l′) × ((k < k′) ⊎ ((k ≡ k′) × (p < p′))))
 
-is-kind : (l k : ℕ) (r : Request) → isAt l k r ≡ true → k < 2
-unfolding isAt
-is-kind l k request.Nothing e = absurd (false≢true e)
-is-kind l k (request.Dma x) e = omega (arith, eqb-true k 0 (and-l (eqb k 0) (eqb x l) e))
-is-kind l k (request.Interrupt x) e = omega (arith, eqb-true k 1 (and-l (eqb k 1) (eqb x l) e))
+-- for DMA if that is enabled, else, unmasked and with interrupts enabled, for an interrupt
+abbrev Kinds : Image → List Channel → ℕ → ℕ → Type 0
+Kinds m cs k p =
+    ((k ≡ 0) × (dmaEnabled m cs p ≡ true)) ⊎ ((k ≡ 1) × (dmaEnabled m cs p ≡ false) × (unmasked m cs p ≡ true) × (has m IEN ≡ true))
 
-is-level : (m : Image) (l k : ℕ) (r : Request) → eligible m r ≡ true → isAt l k r ≡ true → l < 8
-unfolding isAt eligible
-is-level m l k request.Nothing a e = absurd (false≢true e)
-is-level m l k (request.Dma x) a e =
-    omega (arith, eqb-true x l (and-r (eqb k 0) (eqb x l) e), ltb-true x (CPL m) a)
-is-level m l k (request.Interrupt x) a e =
-    omega (arith, eqb-true x l (and-r (eqb k 1) (eqb x l) e), ltb-true x (CPL m) (and-r (has m IEN) (ltb x (CPL m)) a))
+-- an eligible request is of a pending source at its level, above the current one
+pub record Requests (m : Image) (cs : List Channel) (l k p : ℕ) : Type 0 where
+  pub waits : pending m cs p ≡ true
+  pub levelled : level m cs p ≡ l
+  pub above : l < CPL m
+  pub kinds : Kinds m cs k p
+
+pub asks-requests : (m : Image) (cs : List Channel) (l k p : ℕ) → Asks m cs l k p → Requests m cs l k p
+asks-requests m cs l k p a = go k (is-kind l k (requestOf m cs p) (a .is)) (a .is)
+  where
+    go : (k : ℕ) → k < 2 → isAt l k (requestOf m cs p) ≡ true → Requests m cs l k p
+    go zero h e =
+        let r = is-dma l (requestOf m cs p) e in
+        let q = dma-request m cs p l r in
+        record { waits = q .0; levelled = q .2; above = eligible-dma m l (rw r at (a .allowed)); kinds = inl (refl, q .1) }
+    go (suc zero) h e =
+        let r = is-interrupt l (requestOf m cs p) e in
+        let q = interrupt-request m cs p l r in
+        let f = eligible-interrupt m l (rw r at (a .allowed)) in
+        record { waits = q .0; levelled = q .3; above = f .1; kinds = inr (refl, q .1, q .2, f .0) }
+    go (suc (suc k)) h e = absurd (omega arith)
+
+-- and every such source asks
+pub requests-asks : (m : Image) (cs : List Channel) (l k p : ℕ) → p < sources cs → Requests m cs l k p → Asks m cs l k p
+unfolding requestOf eligible isAt
+requests-asks m cs l k p h r = go (r .kinds)
+  where
+    at-level : eqb (level m cs p) l ≡ true
+    at-level = eq-eqb (level m cs p) l (r .levelled)
+
+    below : ltb (level m cs p) (CPL m) ≡ true
+    below = lt-ltb (level m cs p) (CPL m) (omega (arith, r .above, r .levelled))
+
+    go : Kinds m cs k p → Asks m cs l k p
+    go (inl q) = record { there = h; allowed = simp (r .waits, q .1, below); is = simp (r .waits, q .1, q .0, at-level) }
+    go (inr q) = record { there = h; allowed = simp (r .waits, q .1, q .2, q .3, below); is = simp (r .waits, q .1, q .2, q .0, at-level) }
 
 won-somebody : (l k p : ℕ) → Somebody (wonBy l k p)
 unfolding wonBy
@@ -128,7 +155,7 @@ module _ (m : Image) (cs : List Channel) where
   pub winner-none : winnerOf m cs ≡ winner.Nobody → (l k p : ℕ) → Asks m cs l k p → ⊥
   unfolding winnerOf
   winner-none e l k p a =
-      level-none l (first-none (winnerAtLevel m cs) 8 e l (is-level m l k (requestOf m cs p) (a .allowed) (a .is))) k p a
+      level-none l (first-none (winnerAtLevel m cs) 8 e l (omega (arith, asks-requests m cs l k p a .above))) k p a
 
   -- the winner is eligible, and nothing earlier is
   pub record Wins (w : Winner) : Type 0 where
@@ -180,49 +207,9 @@ Won m cs (winner.Interrupt s l) =
 
 module _ (m : Image) (cs : List Channel) where
   eligible-asks : (s : ℕ) → s < sources cs → Eligible m cs s → Asks m cs (level m cs s) 1 s
-  unfolding requestOf eligible isAt
   eligible-asks s h a =
-      record {
-        there = h;
-        allowed = simp (a .waits, a .noDma, a .unmaskedThere, a .enabled, lt-ltb (level m cs s) (CPL m) (a .above));
-        is = simp (a .waits, a .noDma, a .unmaskedThere, eq-eqb (level m cs s) (level m cs s) refl);
-      }
-
-  -- what an eligible request of the second kind is
-  asks-eligible : (l s : ℕ) → Asks m cs l 1 s → (l ≡ level m cs s) × Eligible m cs s
-  unfolding requestOf eligible isAt
-  asks-eligible l s a = go (pending m cs s) (dmaEnabled m cs s) (unmasked m cs s) refl refl refl (a .allowed) (a .is)
-    where
-      asked : Bool → Bool → Bool → Request
-      asked p d u = cond p (cond d (request.Dma (level m cs s)) (cond u (request.Interrupt (level m cs s)) request.Nothing)) request.Nothing
-
-      go : (p d u : Bool) → pending m cs s ≡ p → dmaEnabled m cs s ≡ d → unmasked m cs s ≡ u
-          → eligible m (asked p d u) ≡ true → isAt l 1 (asked p d u) ≡ true → (l ≡ level m cs s) × Eligible m cs s
-      go true false true hp hd hu e i = (
-        sym (eqb-true (level m cs s) l i),
-        record {
-          enabled = and-l (has m IEN) (ltb (level m cs s) (CPL m)) e;
-          waits = hp;
-          unmaskedThere = hu;
-          noDma = hd;
-          above = ltb-true (level m cs s) (CPL m) (and-r (has m IEN) (ltb (level m cs s) (CPL m)) e);
-        },
-      )
-      go true true u hp hd hu e i = absurd (false≢true i)
-      go true false false hp hd hu e i = absurd (false≢true i)
-      go false d u hp hd hu e i = absurd (false≢true i)
-
-  -- a request of the first kind is of a source that has DMA enabled
-  asks-dma : (l s : ℕ) → Asks m cs l 0 s → dmaEnabled m cs s ≡ true
-  unfolding requestOf isAt
-  asks-dma l s a = go (pending m cs s) (dmaEnabled m cs s) (unmasked m cs s) (a .is)
-    where
-      go : (p d u : Bool)
-          → isAt l 0 (cond p (cond d (request.Dma (level m cs s)) (cond u (request.Interrupt (level m cs s)) request.Nothing)) request.Nothing) ≡ true → d ≡ true
-      go true true u i = refl
-      go true false true i = i
-      go true false false i = i
-      go false d u i = absurd (false≢true i)
+      requests-asks m cs (level m cs s) 1 s h
+      (record { waits = a .waits; levelled = refl; above = a .above; kinds = inr (refl, a .noDma, a .unmaskedThere, a .enabled) })
 
   outranks-precedes : (k s : ℕ) → outranks m cs k s ≡ true → Precedes (level m cs k) 1 k (level m cs s) 1 s
   unfolding outranks
@@ -238,18 +225,22 @@ module _ (m : Image) (cs : List Channel) where
           )
 
   module _ (noDma : (k : ℕ) → k < sources cs → dmaEnabled m cs k ≡ false) where
-    of-kind : (l k p : ℕ) → k < 2 → Asks m cs l k p → ((l′ k′ p′ : ℕ) → Precedes l′ k′ p′ l k p → Asks m cs l′ k′ p′ → ⊥) → Won m cs (wonBy l k p)
+    of-kind : (l k p : ℕ) → Asks m cs l k p → ((l′ k′ p′ : ℕ) → Precedes l′ k′ p′ l k p → Asks m cs l′ k′ p′ → ⊥) → Won m cs (wonBy l k p)
     unfolding wonBy
-    of-kind l zero p h a early = absurd (not-both (dmaEnabled m cs p) (asks-dma l p a) (noDma p (a .there)))
-    of-kind l (suc zero) p h a early =
-        let q = asks-eligible l p a in
-        (a .there, q .0, q .1, λ k g o e. early (level m cs k) 1 k (rw (q .0) (outranks-precedes k p o)) (eligible-asks k g e))
-    of-kind l (suc (suc k)) p h a early = absurd (omega arith)
+    of-kind l k p a early = go (asks-requests m cs l k p a) (asks-requests m cs l k p a .kinds)
+      where
+        go : Requests m cs l k p → Kinds m cs k p → Won m cs (wonBy l k p)
+        go r (inl q) = absurd (not-both (dmaEnabled m cs p) (q .1) (noDma p (a .there)))
+        go r (inr q) =
+            rw (q .0) (
+              a .there,
+              sym (r .levelled),
+              record { enabled = q .3; waits = r .waits; unmaskedThere = q .2; noDma = q .1; above = omega (arith, r .above, r .levelled) },
+              λ j g o e. early (level m cs j) 1 j (rw (q .0, ← r .levelled) (outranks-precedes j p o)) (eligible-asks j g e),
+            )
 
     wins-won : (w : Winner) → Wins m cs w → Won m cs w
-    wins-won w q =
-        rw (q .is)
-        (of-kind (q .level) (q .kind) (q .position) (is-kind (q .level) (q .kind) (requestOf m cs (q .position)) (q .asks .is)) (q .asks) (q .earliest))
+    wins-won w q = rw (q .is) (of-kind (q .level) (q .kind) (q .position) (q .asks) (q .earliest))
 
     -- the winner is an eligible interrupt that no eligible one outranks
     pub won : Won m cs (winnerOf m cs)
