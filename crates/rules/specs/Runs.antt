@@ -39,26 +39,36 @@ unfoldable pub stateAfter : State → List Event → State
 stateAfter s [] = s
 stateAfter s (e ∷ es) = stateAfter (e .outcome .state) es
 
-abbrev pub eventRefused : Event → Bool
-eventRefused e = isRefused (e .outcome .answer)
+-- one of the events is of a kind
+unfoldable pub any : (Event → Bool) → List Event → Bool
+any p [] = false
+any p (e ∷ es) = p e || any p es
 
 abbrev pub one : Bool → ℕ
 one b = cond b 1 0
 
+-- how many of the events are of a kind
+unfoldable pub counted : (Event → Bool) → List Event → ℕ
+counted p [] = 0
+counted p (e ∷ es) = one (p e) + counted p es
+
+-- the events up to the first of a kind, with it
+unfoldable pub until : (Event → Bool) → List Event → List Event
+until p [] = []
+until p (e ∷ es) = e ∷ cond (p e) [] (until p es)
+
+abbrev pub eventRefused : Event → Bool
+eventRefused e = isRefused (e .outcome .answer)
+
 -- how many steps were done: all but the refused
-unfoldable pub stepsDone : List Event → ℕ
-stepsDone [] = 0
-stepsDone (e ∷ es) = one (not (eventRefused e)) + stepsDone es
+abbrev pub stepsDone : List Event → ℕ
+stepsDone es = counted (λ e. not (eventRefused e)) es
 
 -- ---- the run
 
 -- a run ends with the first step that is refused
-unfoldable pub untilRefused : List Event → List Event
-untilRefused [] = []
-untilRefused (e ∷ es) = e ∷ cond (eventRefused e) [] (untilRefused es)
-
-unfoldable pub runEvents : State → List Channel → List Step → List Event
-runEvents s cs xs = untilRefused (history s cs xs)
+abbrev pub runEvents : State → List Channel → List Step → List Event
+runEvents s cs xs = until eventRefused (history s cs xs)
 
 -- the answer of the last step, `a` where there is none
 unfoldable pub lastAnswer : Answer → List Event → Answer
@@ -108,9 +118,8 @@ acknowledges s (answer.Refused r) = false
 abbrev pub eventAcknowledges : ℕ → Event → Bool
 eventAcknowledges s e = acknowledges s (e .outcome .answer)
 
-unfoldable pub acknowledgedIn : ℕ → List Event → Bool
-acknowledgedIn s [] = false
-acknowledgedIn s (e ∷ es) = eventAcknowledges s e || acknowledgedIn s es
+abbrev pub acknowledgedIn : ℕ → List Event → Bool
+acknowledgedIn s es = any (eventAcknowledges s) es
 
 abbrev pub isArbitration : Step → Bool
 isArbitration (step.Read r) = false
@@ -122,17 +131,15 @@ isArbitration step.Reset = false
 isArbitration step.Unknown = false
 
 -- the arbitrations made, each that isn't refused
-unfoldable pub arbitrationsIn : List Event → ℕ
-arbitrationsIn [] = 0
-arbitrationsIn (e ∷ es) = one (isArbitration (e .step) && not (eventRefused e)) + arbitrationsIn es
+abbrev pub madeArbitration : Event → Bool
+madeArbitration e = isArbitration (e .step) && not (eventRefused e)
 
--- the events up to the first that acknowledges the source, with it
-unfoldable pub untilAcknowledged : ℕ → List Event → List Event
-untilAcknowledged s [] = []
-untilAcknowledged s (e ∷ es) = e ∷ cond (eventAcknowledges s e) [] (untilAcknowledged s es)
+abbrev pub arbitrationsIn : List Event → ℕ
+arbitrationsIn es = counted madeArbitration es
 
-unfoldable pub waitEvents : State → List Channel → ℕ → List Step → List Event
-waitEvents s cs source xs = untilAcknowledged source (runEvents s cs xs)
+-- a wait report ends with the first step that acknowledges the source, if the run has one
+abbrev pub waitEvents : State → List Channel → ℕ → List Step → List Event
+waitEvents s cs source xs = until (eventAcknowledges source) (runEvents s cs xs)
 
 -- a wait whose last step, after n done and with k arbitrations made, answered a and was accepted or refused
 abbrev pub waitedIf : Verdict → ℕ → ℕ → ℕ → Answer → Waited

@@ -15,7 +15,7 @@ use Rattle.rules.specs.Image.{Image, imageLength, state, has, inService,
 use Rattle.rules.specs.Channels.{listOk}
 use Rattle.rules.specs.Sources.{sources, pending, unmasked, dmaEnabled, level}
 use Rattle.rules.specs.Triggers.{selects}
-use Rattle.rules.specs.Runs.{Event, history, stateAfter, eventRefused, one, acknowledgedIn, arbitrationsIn, isArbitration, runEvents, runOf, waitEvents, waitOf}
+use Rattle.rules.specs.Runs.{Event, history, stateAfter, eventRefused, one, counted, acknowledgedIn, arbitrationsIn, isArbitration, runEvents, runOf, waitEvents, waitOf}
 
 -- ---- outranking
 
@@ -61,9 +61,8 @@ within among (some k) = among k
 abbrev pub triggers : (ℕ → Bool) → Event → Bool
 triggers among e = not (eventRefused e) && within among (selectedBy (e .before .image) (e .step))
 
-unfoldable pub triggersOf : (ℕ → Bool) → List Event → ℕ
-triggersOf among [] = 0
-triggersOf among (e ∷ es) = one (triggers among e) + triggersOf among es
+abbrev pub triggersOf : (ℕ → Bool) → List Event → ℕ
+triggersOf among es = counted (triggers among) es
 
 -- the set is the one at the start m: no step of such a list changes a mask or a level
 abbrev pub E : Image → List Channel → ℕ → List Event → ℕ
