@@ -3,4 +3,9 @@ pub mod ImageLaws
 pub mod ChannelLaws
 pub mod RequestLaws
 pub mod WinnerLaws
+pub mod Refusals
+pub mod Told
+pub mod StepWords
+pub mod Histories
+pub mod RunLaws
 pub mod ExamplesHold

@@ -1,0 +1,138 @@
+-- No two answers are told alike: each telling of specs/Answers has a way back, so it is injective. Assumes nothing.
+use mathlib.Core.Path.{_≡_, refl, sym, ap, ap₂, _∙_}
+use mathlib.Core.Bool.{Bool, true, false, cond}
+use Prim.Native.Nat.{ℕ}
+use lib.Dec.{eqb}
+use Rattle.rules.specs.declared.Refusal.{Refusal}
+use Rattle.rules.specs.declared.Refusal.the-variants as refusal
+use Rattle.rules.specs.declared.Verdict.{Verdict}
+use Rattle.rules.specs.declared.Verdict.the-variants as verdict
+use Rattle.rules.specs.declared.Effect.{Effect}
+use Rattle.rules.specs.declared.Effect.the-variants as effect
+use Rattle.rules.specs.declared.Answer.{Answer}
+use Rattle.rules.specs.declared.Answer.the-variants as answer
+use Rattle.rules.specs.declared.Ran.{Ran}
+use Rattle.rules.specs.declared.Ran.the-variants as ran
+use Rattle.rules.specs.declared.Waited.{Waited}
+use Rattle.rules.specs.declared.Waited.the-variants as waited
+use Rattle.rules.specs.Registers.{losses}
+use Rattle.rules.specs.Runs.{one}
+use Rattle.rules.specs.Answers.{refusalNumber, toldVerdict, effectNumber, Told, told, ToldRun, toldRun, toldWait}
+
+-- a function with a way back is injective
+injective : {A B : Type 0} (f : A → B) (g : B → A) → ((a : A) → g (f a) ≡ a) → (a b : A) → f a ≡ f b → a ≡ b
+injective f g back a b p = sym (back a) ∙ ap g p ∙ back b
+
+-- ---- refusals and verdicts
+
+abbrev refusalAt : ℕ → Refusal
+refusalAt n =
+    cond (eqb n 1) refusal.Length
+    (cond (eqb n 2) refusal.List
+    (cond (eqb n 3) refusal.Register
+    (cond (eqb n 4) refusal.Number (cond (eqb n 5) refusal.Memory (cond (eqb n 6) refusal.Pointer refusal.Kind)))))
+
+refusal-back : (r : Refusal) → refusalAt (refusalNumber r) ≡ r
+refusal-back refusal.Length = refl
+refusal-back refusal.List = refl
+refusal-back refusal.Register = refl
+refusal-back refusal.Number = refl
+refusal-back refusal.Memory = refl
+refusal-back refusal.Pointer = refl
+refusal-back refusal.Kind = refl
+
+-- no two refusals have one number
+pub refusal-number-injective : (a b : Refusal) → refusalNumber a ≡ refusalNumber b → a ≡ b
+refusal-number-injective = injective refusalNumber refusalAt refusal-back
+
+abbrev verdictAt : ℕ → Verdict
+verdictAt n = cond (eqb n 0) verdict.Accepted (verdict.Refused (refusalAt n))
+
+verdict-back : (v : Verdict) → verdictAt (toldVerdict v) ≡ v
+verdict-back verdict.Accepted = refl
+verdict-back (verdict.Refused refusal.Length) = refl
+verdict-back (verdict.Refused refusal.List) = refl
+verdict-back (verdict.Refused refusal.Register) = refl
+verdict-back (verdict.Refused refusal.Number) = refl
+verdict-back (verdict.Refused refusal.Memory) = refl
+verdict-back (verdict.Refused refusal.Pointer) = refl
+verdict-back (verdict.Refused refusal.Kind) = refl
+
+-- no two verdicts are told alike
+pub told-verdict-injective : (a b : Verdict) → toldVerdict a ≡ toldVerdict b → a ≡ b
+told-verdict-injective = injective toldVerdict verdictAt verdict-back
+
+-- ---- answers
+
+abbrev effectAt : ℕ → Effect
+effectAt n = cond (eqb n 0) effect.NotSelected (cond (eqb n 1) effect.Raised effect.Merged)
+
+effect-back : (e : Effect) → effectAt (effectNumber e) ≡ e
+effect-back effect.NotSelected = refl
+effect-back effect.Raised = refl
+effect-back effect.Merged = refl
+
+one-back : (b : Bool) → eqb (one b) 1 ≡ b
+one-back true = refl
+one-back false = refl
+
+abbrev answerAt : Told → Answer
+answerAt t =
+    cond (eqb (t .number) 0) answer.NoStep
+    (cond (eqb (t .number) 1) (answer.Byte (t .first))
+    (cond (eqb (t .number) 2) (answer.Written (losses (t .first)))
+    (cond (eqb (t .number) 3) (answer.Triggered (effectAt (t .first)) (effectAt (t .second)))
+    (cond (eqb (t .number) 4) answer.Nothing
+    (cond (eqb (t .number) 5) answer.TopLevel
+    (cond (eqb (t .number) 6) (answer.Interrupt (t .first) (t .second) (t .third))
+    (cond (eqb (t .number) 7) (answer.Transferred (t .first) (eqb (t .second) 1))
+    (cond (eqb (t .number) 8) answer.Returned (cond (eqb (t .number) 9) answer.Reset (answer.Refused (refusalAt (t .first))))))))))))
+
+answer-back : (a : Answer) → answerAt (told a) ≡ a
+answer-back answer.NoStep = refl
+answer-back (answer.Byte b) = refl
+answer-back (answer.Written l) = refl
+answer-back (answer.Triggered e f) = ap₂ answer.Triggered (effect-back e) (effect-back f)
+answer-back answer.Nothing = refl
+answer-back answer.TopLevel = refl
+answer-back (answer.Interrupt s l v) = refl
+answer-back (answer.Transferred s e) = ap (answer.Transferred s) (one-back e)
+answer-back answer.Returned = refl
+answer-back answer.Reset = refl
+answer-back (answer.Refused r) = ap answer.Refused (refusal-back r)
+
+-- no two answers are told alike
+pub told-injective : (a b : Answer) → told a ≡ told b → a ≡ b
+told-injective = injective told answerAt answer-back
+
+-- ---- runs and wait reports
+
+abbrev ranAt : ToldRun → Ran
+ranAt t =
+    cond (eqb (t .number) 0) (ran.Refused (refusalAt (t .refusal)))
+    (cond (eqb (t .number) 1) (ran.RefusedAt (refusalAt (t .refusal)) (t .steps)) (ran.Done (t .steps) (answerAt (t .last))))
+
+ran-back : (r : Ran) → ranAt (toldRun r) ≡ r
+ran-back (ran.Refused r) = ap ran.Refused (refusal-back r)
+ran-back (ran.RefusedAt r i) = ap (λ (q : Refusal). ran.RefusedAt q i) (refusal-back r)
+ran-back (ran.Done n a) = ap (ran.Done n) (answer-back a)
+
+-- no two answers of a run are told alike
+pub told-run-injective : (a b : Ran) → toldRun a ≡ toldRun b → a ≡ b
+told-run-injective = injective toldRun ranAt ran-back
+
+abbrev waitedAt : Told → Waited
+waitedAt t =
+    cond (eqb (t .number) 0) (waited.Refused (refusalAt (t .first)))
+    (cond (eqb (t .number) 1) (waited.RefusedAt (refusalAt (t .first)) (t .second) (t .third))
+    (cond (eqb (t .number) 2) (waited.Ended (t .first)) (waited.Acknowledged (t .first))))
+
+waited-back : (w : Waited) → waitedAt (toldWait w) ≡ w
+waited-back (waited.Refused r) = ap waited.Refused (refusal-back r)
+waited-back (waited.RefusedAt r i k) = ap (λ (q : Refusal). waited.RefusedAt q i k) (refusal-back r)
+waited-back (waited.Ended k) = refl
+waited-back (waited.Acknowledged k) = refl
+
+-- no two answers of a wait report are told alike
+pub told-wait-injective : (a b : Waited) → toldWait a ≡ toldWait b → a ≡ b
+told-wait-injective = injective toldWait waitedAt waited-back
