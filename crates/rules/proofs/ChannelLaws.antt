@@ -2,7 +2,7 @@
 use mathlib.Core.Path.{_≡_, refl, sym, ap, _∙_}
 use mathlib.Core.Logic.{_≢_, _⊎_, inl, inr}
 use mathlib.Core.List.{List, [], _∷_}
-use mathlib.Core.Bool.{true, not, _&&_}
+use mathlib.Core.Bool.{Bool, true, false, false≢true, not, _&&_}
 use Prim.Native.Nat.{ℕ, zero, suc, _+_, _*_, _≤_, _<_}
 use native.Mathlib.Omega.{arith}
 use native.Mathlib.Nat.{not-suc-le-zero, le-of-suc-le-suc, zero-add}
@@ -16,10 +16,56 @@ use Rattle.rules.proofs.Bools.{and-l, and-r, or-l, or-r, not-both}
 
 -- ---- the numbers of a record are in range
 
+-- the numbers of a record's registers, 0 IDCR to 4 data
+abbrev pub registerNumber : Channel → ℕ → ℕ
+registerNumber c q = getD (c .idcr ∷ c .ivr ∷ c .dcpr ∷ c .dapr ∷ c .io ∷ []) q 0
+
+-- a page of 1 to 63, five register numbers of 240 to 255, a direction of 0 or 1
+pub record InRange (c : Channel) : Type 0 where
+  pub page-low : 1 ≤ c .page
+  pub page-high : c .page ≤ 63
+  pub register-low : (q : ℕ) → q < 5 → 240 ≤ registerNumber c q
+  pub register-high : (q : ℕ) → q < 5 → registerNumber c q ≤ 255
+  pub one-way : c .direction ≤ 1
+
 between-le : (lo hi x : ℕ) → between lo hi x ≡ true → (lo ≤ x) × (x ≤ hi)
 between-le lo hi x e = (leb-true lo x (and-l (leb lo x) (leb x hi) e), leb-true x hi (and-r (leb lo x) (leb x hi) e))
 
--- a record whose numbers are in range: byte r of its five, 0 IDCR to 4 data
+seven : (a b c d e f g : Bool) → (a && b && c && d && e && f && g) ≡ true
+    → (a ≡ true) × (b ≡ true) × (c ≡ true) × (d ≡ true) × (e ≡ true) × (f ≡ true) × (g ≡ true)
+seven true true true true true true true h = (refl, refl, refl, refl, refl, refl, refl)
+seven false b c d e f g h = absurd (false≢true h)
+seven true false c d e f g h = absurd (false≢true h)
+seven true true false d e f g h = absurd (false≢true h)
+seven true true true false e f g h = absurd (false≢true h)
+seven true true true true false f g h = absurd (false≢true h)
+seven true true true true true false g h = absurd (false≢true h)
+seven true true true true true true false h = absurd (false≢true h)
+
+five : (P : ℕ → Type 0) {a b c d e : ℕ} → P a → P b → P c → P d → P e → (q : ℕ) → q < 5 → P (getD (a ∷ b ∷ c ∷ d ∷ e ∷ []) q 0)
+five P a b c d e zero h = a
+five P a b c d e (suc zero) h = b
+five P a b c d e (suc (suc zero)) h = c
+five P a b c d e (suc (suc (suc zero))) h = d
+five P a b c d e (suc (suc (suc (suc zero)))) h = e
+five P a b c d e (suc (suc (suc (suc (suc q))))) h = absurd (omega arith)
+
+-- what a record within the rules has, and all that it needs
+pub record-in-range : (c : Channel) → recordOk c ≡ true → InRange c
+record-in-range c ok =
+    let tests = seven (between 1 63 (c .page)) (between 240 255 (c .idcr)) (between 240 255 (c .ivr)) (between 240 255 (c .dcpr))
+    (between 240 255 (c .dapr)) (between 240 255 (c .io)) (leb (c .direction) 1) ok in
+    let register : (q : ℕ) → q < 5 → between 240 255 (registerNumber c q) ≡ true
+    = five (λ (x : ℕ). between 240 255 x ≡ true) (tests .1) (tests .2) (tests .3) (tests .4) (tests .5) in
+    record {
+      page-low = between-le 1 63 (c .page) (tests .0) .0;
+      page-high = between-le 1 63 (c .page) (tests .0) .1;
+      register-low = λ q h. between-le 240 255 (registerNumber c q) (register q h) .0;
+      register-high = λ q h. between-le 240 255 (registerNumber c q) (register q h) .1;
+      one-way = leb-true (c .direction) 1 (tests .6);
+    }
+
+-- byte r of a record's five, 0 IDCR to 4 data
 abbrev pub registerByte : Channel → ℕ → ℕ
 registerByte c r = getD (recordBytes c) r 0
 
@@ -27,38 +73,20 @@ registerByte c r = getD (recordBytes c) r 0
 abbrev pub OnPage : ℕ → Type 0
 OnPage x = (256 ≤ x) × (x ≤ 1263)
 
-page-range : (p r : ℕ) → between 1 63 p ≡ true → between 240 255 r ≡ true → OnPage (pageByte p r)
-unfolding pageByte
-page-range p r hp hr =
-    let a = between-le 1 63 p hp in
-    let b = between-le 240 255 r hr in
-    (omega (arith, a, b), omega (arith, a, b))
+pub register-byte : (c : Channel) (q : ℕ) → q < 5 → registerByte c q ≡ pageByte (c .page) (registerNumber c q)
+unfolding idcrByte ivrByte dcprByte daprByte dataByte
+register-byte c zero h = refl
+register-byte c (suc zero) h = refl
+register-byte c (suc (suc zero)) h = refl
+register-byte c (suc (suc (suc zero))) h = refl
+register-byte c (suc (suc (suc (suc zero)))) h = refl
+register-byte c (suc (suc (suc (suc (suc q))))) h = absurd (omega arith)
 
 record-range : (c : Channel) → recordOk c ≡ true → (r : ℕ) → r < 5 → OnPage (registerByte c r)
-unfolding idcrByte ivrByte dcprByte daprByte dataByte
-record-range c e r h =
-    let p = between 1 63 (c .page) in
-    let i = between 240 255 (c .idcr) in
-    let v = between 240 255 (c .ivr) in
-    let d = between 240 255 (c .dcpr) in
-    let a = between 240 255 (c .dapr) in
-    let t = between 240 255 (c .io) in
-    let e5 : (p && i && v && d && a && t) ≡ true = and-l (p && i && v && d && a && t) (leb (c .direction) 1) e in
-    let e4 : (p && i && v && d && a) ≡ true = and-l (p && i && v && d && a) t e5 in
-    let e3 : (p && i && v && d) ≡ true = and-l (p && i && v && d) a e4 in
-    let e2 : (p && i && v) ≡ true = and-l (p && i && v) d e3 in
-    let e1 : (p && i) ≡ true = and-l (p && i) v e2 in
-    let on : (x : ℕ) → between 240 255 x ≡ true → OnPage (pageByte (c .page) x) = λ x. page-range (c .page) x (and-l p i e1) in
-    go r h (on (c .idcr) (and-r p i e1)) (on (c .ivr) (and-r (p && i) v e2)) (on (c .dcpr) (and-r (p && i && v) d e3))
-    (on (c .dapr) (and-r (p && i && v && d) a e4)) (on (c .io) (and-r (p && i && v && d && a) t e5))
-  where
-    go : (r : ℕ) → r < 5 → OnPage (idcrByte c) → OnPage (ivrByte c) → OnPage (dcprByte c) → OnPage (daprByte c) → OnPage (dataByte c) → OnPage (registerByte c r)
-    go zero h i v d a t = i
-    go (suc zero) h i v d a t = v
-    go (suc (suc zero)) h i v d a t = d
-    go (suc (suc (suc zero))) h i v d a t = a
-    go (suc (suc (suc (suc zero)))) h i v d a t = t
-    go (suc (suc (suc (suc (suc r))))) h i v d a t = absurd (omega arith)
+unfolding pageByte
+record-range c ok r h =
+    let w = record-in-range c ok in
+    rw (register-byte c r h) (omega (arith, w .page-low, w .page-high, w .register-low r h, w .register-high r h))
 
 records-ok : (cs : List Channel) → recordsOk cs ≡ true → (k : ℕ) → k < length cs → recordOk (recordAt cs k) ≡ true
 unfolding recordsOk
@@ -90,7 +118,7 @@ distinct-apart (x ∷ xs) e (suc i) (suc j) hi hj n d =
 
 -- ---- the bytes of all records: five a record
 
-all-length : (cs : List Channel) → length (allBytes cs) ≡ 5 * length cs
+pub all-length : (cs : List Channel) → length (allBytes cs) ≡ 5 * length cs
 unfolding allBytes
 all-length [] = refl
 all-length (c ∷ cs) = omega (arith, all-length cs)
@@ -98,7 +126,7 @@ all-length (c ∷ cs) = omega (arith, all-length cs)
 later : (k r : ℕ) → 5 * suc k + r ≡ suc (suc (suc (suc (suc (5 * k + r)))))
 later k r = omega arith
 
-all-at : (cs : List Channel) (k r : ℕ) → k < length cs → r < 5 → getD (allBytes cs) (5 * k + r) 0 ≡ registerByte (recordAt cs k) r
+pub all-at : (cs : List Channel) (k r : ℕ) → k < length cs → r < 5 → getD (allBytes cs) (5 * k + r) 0 ≡ registerByte (recordAt cs k) r
 unfolding allBytes
 all-at [] k r h g = absurd (not-suc-le-zero h)
 all-at (c ∷ cs) zero r h g = rw zero-add (List·getD-append (recordBytes c) (allBytes cs) 0 r g)

@@ -1,17 +1,17 @@
 -- What is at a place of the image, and of its bits, after a byte is set, a bit is put, or CPL is put. Assumes nothing.
 use mathlib.Core.Path.{_≡_, ap, _∙_}
 use mathlib.Core.Logic.{_⊎_, inl, inr, _≢_}
-use mathlib.Core.Bool.{Bool, true, false}
+use mathlib.Core.Bool.{Bool, true, false, cond}
 use Prim.Native.Nat.{ℕ, _+_, _*_, _/_, _%_, _≤_, _<_}
 use native.Mathlib.Omega.{arith}
 use native.Mathlib.Decide.{ℕ-discrete}
-use lib.Dec.{ltb}
+use lib.Dec.{eqb, ltb}
 use lib.ListN.{length, set, length-set}
 use lib.Seq.{getD-set-same, getD-set-other, set-out}
 use borrow.Author.Tests.{ltb-true, ltb-false}
 use Rattle.bits.specs.Bits.{bit, putBit}
-use Rattle.bits.proofs.BitLaws.{bit-same, bit-other, low-same, high-same}
-use Rattle.rules.specs.Image.{Image, at, Bit, has, put, putCPL, CPL, CICR}
+use Rattle.bits.proofs.BitLaws.{bit-put, bit-same, bit-other, low-same, high-same}
+use Rattle.rules.specs.Image.{Image, at, Bit, bitOf, has, put, putCPL, CPL, CICR}
 use Rattle.rules.proofs.Bools.{true-or}
 
 -- ---- a byte that is set
@@ -45,6 +45,11 @@ module _ (m : Image) (b : Bit) (v : Bool) where
   -- the bit itself
   pub has-put-same : b .byte < length m → b .number < 8 → has (put m b v) b ≡ v
   has-put-same h k = ap (bit (b .number)) (at-put-same h) ∙ bit-same (b .number) v (at m (b .byte)) k
+
+  -- any bit of its byte
+  pub has-put-bit : (j : ℕ) → b .byte < length m → b .number < 8 → j < 8
+      → has (put m b v) (bitOf (b .byte) j) ≡ cond (eqb j (b .number)) v (has m (bitOf (b .byte) j))
+  has-put-bit j h k hj = ap (bit j) (at-put-same h) ∙ bit-put j (b .number) v (at m (b .byte)) hj k
 
   -- another bit, of another byte or of the same
   pub has-put-other : (c : Bit) → b .number < 8 → c .number < 8 → (c .byte ≢ b .byte) ⊎ (c .number ≢ b .number) → has (put m b v) c ≡ has m c

@@ -1,6 +1,7 @@
 pub mod Bools
 pub mod ImageLaws
 pub mod ChannelLaws
+pub mod PendingLaws
 pub mod RequestLaws
 pub mod WinnerLaws
 pub mod Refusals
@@ -8,4 +9,12 @@ pub mod Told
 pub mod StepWords
 pub mod Histories
 pub mod RunLaws
+pub mod Counting
+pub mod Views
+pub mod Effects
+pub mod Wait
+pub mod Demand3
+pub mod Rivals
+pub mod RunsAndWaits
+pub mod Tight
 pub mod ExamplesHold

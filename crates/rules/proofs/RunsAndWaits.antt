@@ -1,0 +1,125 @@
+-- Demand 3 of runs and of wait reports: their events are histories of first steps. Assumes nothing.
+use mathlib.Core.Path.{_≡_, refl, sym, ap, _∙_}
+use mathlib.Core.List.{List, [], _∷_}
+use mathlib.Core.Bool.{Bool, true, false, false≢true, cond, not, _&&_, _||_}
+use Prim.Native.Nat.{ℕ, suc, _+_, _≤_, _<_}
+use native.Mathlib.Omega.{arith}
+use lib.ListN.{length, take}
+use lib.Seq.{take-length}
+use Rattle.rules.specs.declared.Channel.{Channel}
+use Rattle.rules.specs.declared.Step.{Step}
+use Rattle.rules.specs.declared.Answer.{Answer}
+use Rattle.rules.specs.declared.Answer.the-variants as answer
+use Rattle.rules.specs.declared.Verdict.{Verdict}
+use Rattle.rules.specs.declared.Verdict.the-variants as verdict
+use Rattle.rules.specs.Image.{Image, state}
+use Rattle.rules.specs.Outcomes.{verdictOf, refuses}
+use Rattle.rules.specs.Sources.{pending}
+use Rattle.rules.specs.Runs.{Event, history, stateAfter, eventRefused, one, stepsDone, runEvents, lastAnswer, runReport, runOf, acknowledges, eventAcknowledges, acknowledgedIn, arbitrationsIn, isArbitration, any, counted, until, waitEvents, waitedIf, waitReport, waitOf}
+use Rattle.rules.specs.Waiting.{H, E, Start, Calls, InTime, Kept, RunDemand3, WaitWithin, WaitDemand3}
+use Rattle.rules.proofs.Bools.{not-both}
+use Rattle.rules.proofs.Refusals.{lent-accepted}
+use Rattle.rules.proofs.Histories.{run-prefix, wait-prefix}
+use Rattle.rules.proofs.RunLaws.{wait-accepted}
+use Rattle.rules.proofs.Demand3.{demand3}
+
+module _ (m : Image) (cs : List Channel) (s : ℕ) (a : Start m cs s) where
+  -- demand 3 of events that are a history
+  of-history : (es : List Event) (ys : List Step) → es ≡ history (state m) cs ys → Calls es
+      → (n : ℕ) → InTime s (H m cs s + E m cs s es) (take n es) × Kept m cs s (take n es)
+  of-history es ys e c n = rw e (demand3 m cs s a ys (rw e at c) n)
+
+  -- and of all of them
+  whole : (es : List Event) (ys : List Step) → es ≡ history (state m) cs ys → Calls es → InTime s (H m cs s + E m cs s es) es × Kept m cs s es
+  whole es ys e c = rw (take-length es) at (of-history es ys e c (length es))
+
+-- ours is acknowledged among the steps that a run does, or pending in the image that it leaves
+pub run-demand3 : RunDemand3
+unfolding runOf runReport
+run-demand3 m cs s a xs c =
+    let p = run-prefix (state m) cs xs in
+    rw (lent-accepted (state m) cs (a .calm .long) (a .calm .listed)) (whole m cs s a (runEvents (state m) cs xs) (take (p .0) xs) (p .2) c)
+
+-- ---- the wait report
+
+module _ (s : ℕ) where
+  -- an answer that acknowledges is no refusal
+  acknowledges-accepted : (a : Answer) → acknowledges s a ≡ true → verdictOf a ≡ verdict.Accepted
+  acknowledges-accepted answer.NoStep e = refl
+  acknowledges-accepted (answer.Byte b) e = refl
+  acknowledges-accepted (answer.Written l) e = refl
+  acknowledges-accepted (answer.Triggered f g) e = refl
+  acknowledges-accepted answer.Nothing e = refl
+  acknowledges-accepted answer.TopLevel e = refl
+  acknowledges-accepted (answer.Interrupt k l v) e = refl
+  acknowledges-accepted (answer.Transferred k t) e = refl
+  acknowledges-accepted answer.Returned e = refl
+  acknowledges-accepted answer.Reset e = refl
+  acknowledges-accepted (answer.Refused r) e = absurd (false≢true e)
+
+  -- up to the acknowledgement, the last answer tells whether there is one
+  last-tells : (es : List Event) (a : Answer) → acknowledges s a ≡ false
+      → acknowledges s (lastAnswer a (until (eventAcknowledges s) es)) ≡ acknowledgedIn s (until (eventAcknowledges s) es)
+  unfolding lastAnswer until any
+  last-tells [] a f = f
+  last-tells (e ∷ es) a f = go (eventAcknowledges s e) refl (last-tells es (e .outcome .answer))
+    where
+      go : (b : Bool) → eventAcknowledges s e ≡ b
+          → (eventAcknowledges s e ≡ false
+          → acknowledges s (lastAnswer (e .outcome .answer) (until (eventAcknowledges s) es)) ≡ acknowledgedIn s (until (eventAcknowledges s) es))
+          → acknowledges s (lastAnswer (e .outcome .answer) (cond b [] (until (eventAcknowledges s) es))) ≡ (b || acknowledgedIn s (cond b [] (until (eventAcknowledges s) es)))
+      go true d ih = d
+      go false d ih = ih d
+
+  -- with c arbitrations made before: where each first part of the events with more than b has the acknowledgement, all have b + 1 at most
+  abbrev Bounded : ℕ → List Event → ℕ → Type 0
+  Bounded b es c =
+      c ≤ b → ((n : ℕ) → b < c + arbitrationsIn (take n es) → acknowledgedIn s (take n es) ≡ true) → c + arbitrationsIn es ≤ b + 1
+
+  one-le : (t : Bool) → one t ≤ 1
+  one-le true = omega arith
+  one-le false = omega arith
+
+  -- so it is of events that end with the acknowledgement
+  until-bounded : (b : ℕ) (es : List Event) (c : ℕ) → Bounded b (until (eventAcknowledges s) es) c
+  unfolding until any counted
+  until-bounded b [] c l h = omega arith
+  until-bounded b (e ∷ es) c l h = go (until (eventAcknowledges s) es) (eventAcknowledges s e) refl (until-bounded b es) h
+    where
+      go : (us : List Event) (t : Bool) → eventAcknowledges s e ≡ t → ((c : ℕ) → Bounded b us c)
+          → ((n : ℕ) → b < c + arbitrationsIn (take n (e ∷ cond t [] us)) → acknowledgedIn s (take n (e ∷ cond t [] us)) ≡ true)
+          → c + arbitrationsIn (e ∷ cond t [] us) ≤ b + 1
+      go us true d ih h = omega (arith, one-le (isArbitration (e .step) && not (eventRefused e)))
+      go us false d ih h =
+          let made = one (isArbitration (e .step) && not (eventRefused e)) in
+          let past : (n : ℕ) → b < c + made + arbitrationsIn (take n us) → acknowledgedIn s (take n us) ≡ true =
+          λ n g. ap (λ (t : Bool). t || acknowledgedIn s (take n us)) (sym d) ∙ h (suc n) (omega arith) in
+          let few : b < c + made → ⊥ = λ g. false≢true (past 0 (omega arith)) in
+          omega (arith, ih (c + made) (omega arith) past)
+
+  -- what the report answers by its last answer, its k arbitrations and whether ours is pending still
+  waited-within : (bound n k : ℕ) (a : Answer) (still : Bool) → (acknowledges s a ≡ true → k ≤ bound + 1)
+      → (acknowledges s a ≡ false → (k ≤ bound) × (still ≡ true)) → WaitWithin bound (waitedIf (verdictOf a) s n k a) still
+  waited-within bound n k a still p q = go (verdictOf a) (acknowledges s a) refl refl
+    where
+      go : (v : Verdict) (b : Bool) → verdictOf a ≡ v → acknowledges s a ≡ b → WaitWithin bound (waitedIf v s n k a) still
+      go verdict.Accepted true e f = rw f (p f)
+      go verdict.Accepted false e f = rw f (q f)
+      go (verdict.Refused r) true e f = absurd (false≢true (ap refuses (sym (acknowledges-accepted a f) ∙ e)))
+      go (verdict.Refused r) false e f = q f
+
+-- a wait report answers within the bound, and with ours pending where it is not acknowledged
+pub wait-demand3 : WaitDemand3
+unfolding waitOf waitReport
+wait-demand3 m cs s a xs c =
+    let es = waitEvents (state m) cs s xs in
+    let bound = H m cs s + E m cs s es in
+    let p = wait-prefix (state m) cs s xs in
+    let w = whole m cs s a es (take (p .0) xs) (p .2) c in
+    rw (wait-accepted (state m) cs s (lent-accepted (state m) cs (a .calm .long) (a .calm .listed)) (a .there))
+    (waited-within s bound (0 + stepsDone es) (0 + arbitrationsIn es) (lastAnswer answer.NoStep es) (pending (stateAfter (state m) es .image) cs s)
+    (λ t. until-bounded s bound (runEvents (state m) cs xs) 0 (omega arith) (λ n g. of-history m cs s a es (take (p .0) xs) (p .2) c n .0 (omega arith)))
+    (λ f.
+    let none : acknowledgedIn s es ≡ false = sym (last-tells s (runEvents (state m) cs xs) answer.NoStep refl) ∙ f in
+    let few : bound < arbitrationsIn es → ⊥ = λ g. not-both (acknowledgedIn s es) (w .0 g) none in
+    (omega arith, w .1 none)))

@@ -1,0 +1,101 @@
+-- Demand 3's premises can be met, and its bound is met exactly: a list of calls that needs H + E + 1 arbitrations. What must not count is there too:
+-- a masked source above ours and one that ours outranks, both pending and triggered, a trigger of ours, and a refused one. Assumes nothing.
+use mathlib.Core.Path.{_≡_, refl, sym, ap, _∙_}
+use mathlib.Core.Bool.{Bool, true, false, not, _&&_, _||_}
+use mathlib.Core.List.{List, [], _∷_}
+use Prim.Native.Nat.{ℕ}
+use lib.Dec.{lit<}
+use lib.ListN.{take}
+use Rattle.bits.specs.Bits.{digit, bit, putBit}
+use Rattle.bits.proofs.Tests.{passes, fails}
+use Rattle.rules.specs.declared.Channel.{Channel}
+use Rattle.rules.specs.declared.Step.{Step}
+use Rattle.rules.specs.declared.Step.the-variants as step
+use Rattle.rules.specs.declared.Trigger.the-variants as trigger
+use Rattle.rules.specs.Image.{Image, state, has, IEN, pageByte, put, CICR, EIPR, EIMR, EIPLR}
+use Rattle.rules.specs.Channels.{idcrByte, ivrByte, dcprByte, daprByte, dataByte, recordsOk, member, distinct, allBytes, listOk}
+use Rattle.rules.specs.Sources.{sources, pendingBit, pending, unmasked, dmaEnabled, externalLevel, level}
+use Rattle.rules.specs.Triggers.{triggerVerdict, selects, selectsTop, sourceEffect, raiseSource, topEffect, raiseTop, fire, triggerOf}
+use Rattle.rules.specs.Requests.{requestOf, eligible, isAt, wonBy, candidate, first, winnerOfKind, winnerAtLevel, winnerOf}
+use Rattle.rules.specs.Arbitration.{vectorOf, acknowledged, granted, topLevel, arbitration, arbitrateOf}
+use Rattle.rules.specs.Return.{returned, returnOf}
+use Rattle.rules.specs.Steps.{lentVerdict, actOf, stepOf}
+use Rattle.rules.specs.Runs.{Event, any, counted, history, acknowledgedIn, arbitrationsIn, isArbitration}
+use Rattle.rules.specs.Waiting.{outranks, rival, count, pendingOf, H, E, Start, isCall, Calls}
+use Rattle.rules.specs.Examples.{image, channel, _↤_}
+use Rattle.rules.proofs.Bools.{and-l, and-r}
+
+-- CPL is 7, IEN 0 and TLIP 1. INTA0, the record and INTB0 are at level 0, INTA1 and INTB1 at level 1; all five are pending, and all but INTB0
+-- unmasked. Byte 240, which no rule reads, has what the record's IDCR has
+unfoldable pub start : Image
+unfolding image idcrByte
+start =
+    image ((CICR ↤ 0xc7) ∷ (EIPR ↤ 0x0f) ∷ (EIMR ↤ 0x0b) ∷ (EIPLR ↤ 0xf0) ∷ (idcrByte channel ↤ 0x28) ∷ (pageByte 0 240 ↤ 0x28) ∷ [])
+
+abbrev pub channels : List Channel
+channels = channel ∷ []
+
+-- INTA1
+abbrev pub ours : ℕ
+ours = 1
+
+abbrev falling : ℕ → Step
+falling k = step.Trigger (trigger.Pin k 0)
+
+abbrev request : ℕ → Step
+request k = step.Trigger (trigger.Request k)
+
+-- each rival is served, triggered and served again; there is no record 1
+abbrev pub steps : List Step
+steps =
+    step.Return ∷ step.Arbitrate ∷ falling 0 ∷ falling 1 ∷ falling 2 ∷ falling 3 ∷ request 1 ∷ step.Return ∷ step.Arbitrate ∷ step.Return ∷ step.Arbitrate
+    ∷ request 0 ∷ step.Return ∷ step.Arbitrate ∷ step.Return ∷ step.Arbitrate ∷ []
+
+abbrev pub events : List Event
+events = history (state start) channels steps
+
+starts : Start start channels ours
+unfolding start image digit bit pageByte idcrByte ivrByte dcprByte daprByte dataByte recordsOk member distinct allBytes listOk sources pendingBit pending unmasked dmaEnabled externalLevel level
+starts =
+    record {
+      calm =
+          record {
+            long = refl;
+            listed = refl;
+            concurrent = refl;
+            noDma = λ k h. fails (dmaEnabled start channels k) (passes 9 (λ k. not (dmaEnabled start channels k)) tt k h);
+            noTLI = refl;
+            noTLNM = refl;
+            idle = refl;
+          };
+      there = lit< tt;
+      waits = refl;
+      unmaskedThere = refl;
+      above = lit< tt;
+    }
+
+-- `Calls` as a test
+abbrev callTest : Event → Bool
+callTest e = isCall (e .step) && (not (isArbitration (e .step)) || has (e .before .image) IEN)
+
+abbrev callsTest : List Event → Bool
+callsTest [] = true
+callsTest (e ∷ es) = callTest e && callsTest es
+
+calls-by : (es : List Event) → callsTest es ≡ true → Calls es
+calls-by [] h = tt
+calls-by (e ∷ es) h =
+    let t = and-l (callTest e) (callsTest es) h in
+    let is = isCall (e .step) in
+    let on = not (isArbitration (e .step)) || has (e .before .image) IEN in (
+      and-l is on t,
+      λ a. ap (λ (x : Bool). not x || has (e .before .image) IEN) (sym a) ∙ and-r is on t,
+      calls-by es (and-r (callTest e) (callsTest es) h),
+    )
+
+-- a start and a list of calls as demand 3 asks, with H = 2 and E = 2: ours is not acknowledged among the first four arbitrations, and by the fifth
+pub tight : Start start channels ours × Calls events × (H start channels ours ≡ 2) × (E start channels ours events ≡ 2)
+    × (arbitrationsIn (take 15 events) ≡ 4) × (acknowledgedIn ours (take 15 events) ≡ false)
+    × (arbitrationsIn events ≡ 5) × (acknowledgedIn ours events ≡ true)
+unfolding start image digit bit putBit pageByte put idcrByte ivrByte dcprByte daprByte dataByte recordsOk member distinct allBytes listOk sources pendingBit pending unmasked dmaEnabled externalLevel level triggerVerdict selects selectsTop sourceEffect raiseSource topEffect raiseTop fire triggerOf requestOf eligible isAt wonBy candidate first winnerOfKind winnerAtLevel winnerOf vectorOf acknowledged granted topLevel arbitration arbitrateOf returned returnOf lentVerdict actOf stepOf history outranks rival count pendingOf any counted
+tight = (starts, calls-by events refl, refl, refl, refl, refl, refl, refl)
