@@ -4,7 +4,7 @@ use mathlib.Core.Path.{_≡_, refl, sym, ap, _∙_}
 use mathlib.Core.Logic.{_≢_}
 use mathlib.Core.Bool.{Bool, true, false, cond, not, _&&_, _||_}
 use Prim.Native.Nat.{ℕ, zero, suc, _+_, _-_, _*_, _/_, _%_, _^_, _≤_, _<_, min, max}
-use native.Mathlib.Nat.{mod-lt, mod-mod, zero-lt-suc, add-sub-of-le}
+use native.Mathlib.Nat.{mod-lt, mod-mod, mod-eq-of-lt, zero-lt-suc, add-sub-of-le}
 use lib.Arith.{digits-div}
 use lib.Pow.{shr-shr}
 use native.Mathlib.Omega.{arith}
@@ -79,6 +79,10 @@ agreed false false t = refl
 pub bit-not : (k b : ℕ) → k < 8 → b < 256 → bit k (255 - b) ≡ not (bit k b)
 unfolding bit digit
 bit-not k b hk hb = agreed (bit k (255 - b)) (not (bit k b)) (passes₂ 8 256 (λ k b. agree (bit k (255 - b)) (not (bit k b))) tt k b hk hb)
+
+-- all eight bits of a byte
+pub and-byte : (b : ℕ) → b < 256 → bitAnd b 255 ≡ b
+and-byte b h = and-mask b 8 ∙ mod-eq-of-lt h
 
 -- ---- the masks of one bit
 

@@ -50,7 +50,7 @@ five P a b c d e (suc (suc (suc zero))) h = d
 five P a b c d e (suc (suc (suc (suc zero)))) h = e
 five P a b c d e (suc (suc (suc (suc (suc q))))) h = absurd (omega arith)
 
--- what a record within the rules has, and all that it needs
+-- a record within the rules has its numbers in range (ListLaws has the other way)
 pub record-in-range : (c : Channel) → recordOk c ≡ true → InRange c
 record-in-range c ok =
     let tests = seven (between 1 63 (c .page)) (between 240 255 (c .idcr)) (between 240 255 (c .ivr)) (between 240 255 (c .dcpr))
@@ -73,6 +73,7 @@ registerByte c r = getD (recordBytes c) r 0
 abbrev pub OnPage : ℕ → Type 0
 OnPage x = (256 ≤ x) × (x ≤ 1263)
 
+-- each register stands on the record's page
 pub register-byte : (c : Channel) (q : ℕ) → q < 5 → registerByte c q ≡ pageByte (c .page) (registerNumber c q)
 unfolding idcrByte ivrByte dcprByte daprByte dataByte
 register-byte c zero h = refl
@@ -116,8 +117,9 @@ distinct-apart (x ∷ xs) e (suc i) zero hi hj n d = first-apart x xs e i (le-of
 distinct-apart (x ∷ xs) e (suc i) (suc j) hi hj n d =
     distinct-apart xs (and-r (not (member x xs)) (distinct xs) e) i j (le-of-suc-le-suc hi) (le-of-suc-le-suc hj) (λ q. n (ap suc q)) d
 
--- ---- the bytes of all records: five a record
+-- ---- the bytes of all records
 
+-- five bytes a record
 pub all-length : (cs : List Channel) → length (allBytes cs) ≡ 5 * length cs
 unfolding allBytes
 all-length [] = refl
@@ -126,6 +128,7 @@ all-length (c ∷ cs) = omega (arith, all-length cs)
 later : (k r : ℕ) → 5 * suc k + r ≡ suc (suc (suc (suc (suc (5 * k + r)))))
 later k r = omega arith
 
+-- register r of record k is byte 5k + r
 pub all-at : (cs : List Channel) (k r : ℕ) → k < length cs → r < 5 → getD (allBytes cs) (5 * k + r) 0 ≡ registerByte (recordAt cs k) r
 unfolding allBytes
 all-at [] k r h g = absurd (not-suc-le-zero h)

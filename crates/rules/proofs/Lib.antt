@@ -1,6 +1,11 @@
 pub mod Bools
 pub mod ImageLaws
 pub mod ChannelLaws
+pub mod ListLaws
+pub mod PlaceLaws
+pub mod WriteLaws
+pub mod ResetLaws
+pub mod ViewLaws
 pub mod PendingLaws
 pub mod RequestLaws
 pub mod WinnerLaws
