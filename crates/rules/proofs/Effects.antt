@@ -2,69 +2,30 @@
 use mathlib.Core.Path.{_≡_, refl}
 use mathlib.Core.List.{List}
 use mathlib.Core.Option.{Option, none, some}
-use mathlib.Core.Bool.{Bool, true, false, false≢true, cond, not, _&&_, _||_, and-false}
-use Prim.Native.Nat.{ℕ, _+_, _<_}
+use mathlib.Core.Bool.{Bool, true, false, false≢true, and-false}
+use Prim.Native.Nat.{ℕ, _<_}
 use native.Mathlib.Omega.{arith}
-use lib.Dec.{eqb, ltb}
-use lib.ListN.{length}
-use borrow.Author.Tests.{ltb-true, ltb-false}
 use Rattle.rules.specs.declared.Channel.{Channel}
 use Rattle.rules.specs.declared.Trigger.{Trigger}
-use Rattle.rules.specs.declared.Trigger.the-variants as trigger
 use Rattle.rules.specs.declared.Step.{Step}
 use Rattle.rules.specs.declared.Step.the-variants as step
-use Rattle.rules.specs.declared.Refusal.{Refusal}
 use Rattle.rules.specs.declared.Verdict.{Verdict}
 use Rattle.rules.specs.declared.Verdict.the-variants as verdict
 use Rattle.rules.specs.declared.Winner.{Winner}
 use Rattle.rules.specs.declared.Winner.the-variants as winner
-use Rattle.rules.specs.Image.{Image, state, bitOf, has, put, EITR, IAOS, IEN, TLIP}
+use Rattle.rules.specs.Image.{Image, state, has, put, IEN, TLIP}
 use Rattle.rules.specs.Outcomes.{isRefused}
 use Rattle.rules.specs.Sources.{sources, pendingBit}
 use Rattle.rules.specs.Requests.{winnerOf}
-use Rattle.rules.specs.Triggers.{triggerVerdict, edge, selectIf, selects, selectsTop, raiseSource, raiseTop, fire, triggerOf}
+use Rattle.rules.specs.Triggers.{triggerVerdict, selects, selectsTop, raiseSource, raiseTop, fire, triggerOf}
 use Rattle.rules.specs.Arbitration.{acknowledged, granted, topLevel, arbitration, arbitrateOf}
 use Rattle.rules.specs.Return.{returned, returnOf}
 use Rattle.rules.specs.Steps.{actOf, stepOf}
 use Rattle.rules.specs.Waiting.{Calm, isCall}
-use Rattle.rules.proofs.Bools.{impossible}
 use Rattle.rules.proofs.Refusals.{accepted-acts}
+use Rattle.rules.proofs.SelectionLaws.{selected-there}
 use Rattle.rules.proofs.WinnerLaws.{Won, won}
 use Rattle.rules.proofs.Views.{Same, same-refl, Quiet, quiet-if, Puts, puts-quiet, cicr-quiet, pending-puts}
-
--- ---- what a trigger selects
-
-select-some : (b : Bool) (k w : ℕ) → selectIf b k ≡ some w → k ≡ w
-select-some true k w e = cc
-select-some false k w e = impossible (cc)
-
-accepted-if : (b : Bool) (r : Refusal) → cond b (verdict.Refused r) verdict.Accepted ≡ verdict.Accepted → b ≡ false
-accepted-if true r e = impossible (cc)
-accepted-if false r e = refl
-
-accepted-unless : (b : Bool) (r : Refusal) → cond b verdict.Accepted (verdict.Refused r) ≡ verdict.Accepted → b ≡ true
-accepted-unless true r e = refl
-accepted-unless false r e = impossible (cc)
-
-neither-l : (a b : Bool) → (a || b) ≡ false → a ≡ false
-neither-l true b e = e
-neither-l false b e = refl
-
--- a trigger that is not refused selects a source that is there
-pub selects-there : (m : Image) (cs : List Channel) (t : Trigger) (w : ℕ) → triggerVerdict cs t ≡ verdict.Accepted → selects m t ≡ some w → w < sources cs
-unfolding triggerVerdict selects sources
-selects-there m cs (trigger.Pin k d) w v e =
-    omega (
-      arith,
-      ltb-false 7 k (neither-l (ltb 7 k) (ltb 1 d) (accepted-if (ltb 7 k || ltb 1 d) _ v)),
-      select-some (edge d (has m (bitOf EITR k)) && (not (eqb k 0) || has m IAOS)) k w e,
-    )
-selects-there m cs trigger.Watchdog w v e = omega (arith, select-some (not (has m IAOS)) 0 w e)
-selects-there m cs (trigger.Nmi d) w v e = impossible (cc)
-selects-there m cs (trigger.Request k) w v e =
-    let z : 8 + k ≡ w = cc in
-    omega (arith, ltb-true k (length cs) (accepted-unless (ltb k (length cs)) _ v))
-selects-there m cs trigger.Unknown w v e = impossible (cc)
 
 -- ---- the calls
 
@@ -89,7 +50,7 @@ module _ (m : Image) (cs : List Channel) (a : Calm m cs) where
   pub trigger-raises : (t : Trigger) → triggerVerdict cs t ≡ verdict.Accepted
       → Raised cs m (fire m cs verdict.Accepted (selects m t) (selectsTop m t) .image) (selects m t)
   unfolding fire
-  trigger-raises t e = fire-raises (selects m t) (selectsTop m t) (λ w d. selects-there m cs t w e d)
+  trigger-raises t e = fire-raises (selects m t) (selectsTop m t) (selected-there m cs t e)
 
   -- a return sets IEN
   pub return-quiet : Quiet cs m (returned m)

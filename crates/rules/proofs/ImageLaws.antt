@@ -27,6 +27,10 @@ at-any m i v f e j = go (ℕ-discrete j i) (true-or (ltb i (length m)))
 
 -- ---- a bit that is put
 
+-- two bits at different places, of two bytes or of one
+abbrev pub Apart : Bit → Bit → Type 0
+Apart c b = (c .byte ≢ b .byte) ⊎ (c .number ≢ b .number)
+
 module _ (m : Image) (b : Bit) (v : Bool) where
   pub put-length : length (put m b v) ≡ length m
   unfolding put
@@ -52,7 +56,7 @@ module _ (m : Image) (b : Bit) (v : Bool) where
   has-put-bit j h k hj = ap (bit j) (at-put-same h) ∙ bit-put j (b .number) v (at m (b .byte)) hj k
 
   -- another bit, of another byte or of the same
-  pub has-put-other : (c : Bit) → b .number < 8 → c .number < 8 → (c .byte ≢ b .byte) ⊎ (c .number ≢ b .number) → has (put m b v) c ≡ has m c
+  pub has-put-other : (c : Bit) → b .number < 8 → c .number < 8 → Apart c b → has (put m b v) c ≡ has m c
   unfolding put
   has-put-other c hb hc (inl d) = ap (bit (c .number)) (at-put-other (c .byte) d)
   has-put-other c hb hc (inr d) =

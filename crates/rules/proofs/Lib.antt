@@ -7,8 +7,16 @@ pub mod WriteLaws
 pub mod ResetLaws
 pub mod ViewLaws
 pub mod PendingLaws
+pub mod SelectionLaws
+pub mod TriggerLaws
 pub mod RequestLaws
 pub mod WinnerLaws
+pub mod AcknowledgementLaws
+pub mod FieldLaws
+pub mod TransferLaws
+pub mod TopLevelLaws
+pub mod RestoredLaws
+pub mod ReturnLaws
 pub mod Refusals
 pub mod Told
 pub mod StepWords

@@ -1,7 +1,7 @@
 -- Where the sources' pending bits stand: EIPR bit s, or bit 5 of an IDCR on pages 1 to 63; no two at one place, and on no other register that a rule names.
 -- Assumes nothing.
 use mathlib.Core.Path.{_≡_, sym, ap}
-use mathlib.Core.Logic.{_≢_, _⊎_, inl, inr}
+use mathlib.Core.Logic.{_≢_, inl, inr}
 use mathlib.Core.List.{List}
 use mathlib.Core.Bool.{Bool, true}
 use Prim.Native.Nat.{ℕ, _-_, _≤_, _<_}
@@ -15,14 +15,11 @@ use Rattle.rules.specs.Image.{Image, imageLength, at, CICR, EIPR, NICR, 
 use Rattle.rules.specs.Channels.{idcrByte, listOk}
 use Rattle.rules.specs.Sources.{sources, external, recordOf, IP, pendingBit, pending}
 use Rattle.rules.proofs.Bools.{cond-elim}
-use Rattle.rules.proofs.ImageLaws.{has-put-same, has-put-other}
+use Rattle.rules.proofs.ImageLaws.{Apart, has-put-same, has-put-other}
 use Rattle.rules.proofs.ChannelLaws.{OnPage, register-range, registers-apart}
 
--- two bits at different places, as `has-put-other` asks
-abbrev pub Apart : Bit → Bit → Type 0
-Apart c b = (c .byte ≢ b .byte) ⊎ (c .number ≢ b .number)
-
 module _ (cs : List Channel) (ok : listOk cs ≡ true) where
+  -- a record's IDCR is on pages 1 to 63
   pub idcr-on-page : (s : ℕ) → 8 ≤ s → s < sources cs → OnPage (idcrByte (recordOf cs s))
   unfolding sources
   idcr-on-page s g h = register-range cs ok (s - 8) 0 (omega arith) (lit< tt)
@@ -39,6 +36,7 @@ module _ (cs : List Channel) (ok : listOk cs ≡ true) where
     pending-elim P p q =
         cond-elim P (external s) (λ t. p (ltb-true s 8 t)) (λ f. q (ltb-false s 8 f) (idcr-on-page s (ltb-false s 8 f) there))
 
+    -- it is a bit of a byte, within the image
     pub pending-number : pendingBit cs s .number < 8
     pending-number = pending-elim (λ b. b .number < 8) (λ g. g) (λ g o. lit< tt)
 
@@ -62,17 +60,18 @@ module _ (cs : List Channel) (ok : listOk cs ≡ true) where
       (λ gk. pending-elim s hs (λ b. Apart (bitOf EIPR k) b) (λ gs. inr d) (λ gs o. inl (λ e. omega arith)))
       (λ gk p. pending-elim s hs (λ b. Apart (IP (recordOf cs k)) b) (λ gs. inl (λ e. omega arith)) (λ gs o. inl (idcr-two k s gk gs hk hs d)))
 
-  -- a put pending bit reads back, and the others stay
+  -- a put pending bit reads back,
   pub pending-put-same : (m : Image) (s : ℕ) (v : Bool) → length m ≡ imageLength → s < sources cs → pending (put m (pendingBit cs s) v) cs s ≡ v
   unfolding pending
   pending-put-same m s v long hs = has-put-same m (pendingBit cs s) v (rw long (pending-inside s hs)) (pending-number s hs)
 
+  -- the others stay,
   pub pending-put-other : (m : Image) (k s : ℕ) (v : Bool) → k < sources cs → s < sources cs → k ≢ s → pending (put m (pendingBit cs s) v) cs k ≡ pending m cs k
   unfolding pending
   pending-put-other m k s v hk hs d =
       has-put-other m (pendingBit cs s) v (pendingBit cs k) (pending-number s hs) (pending-number k hk) (pending-apart k s hk hs d)
 
-  -- and so they do where no byte changes but CICR, NICR and the mark
+  -- and all stay where no byte changes but CICR, NICR and the mark
   pub pending-same : (m m' : Image) (k : ℕ) → k < sources cs → ((j : ℕ) → j ≢ CICR → j ≢ NICR → j ≢ MARK → at m' j ≡ at m j) → pending m' cs k ≡ pending m cs k
   unfolding pending
   pending-same m m' k hk same = ap (bit (pendingBit cs k .number)) (same (pendingBit cs k .byte) (off CICR (λ e. omega arith) (λ o. omega arith))

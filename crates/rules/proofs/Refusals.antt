@@ -1,14 +1,13 @@
--- Document 01, "Refusal numbers": a refused step changes nothing, refusals 1 and 2 come before any other and from nothing else, and the order
--- of a transfer's. Assumes nothing.
+-- Document 01, "Refusal numbers": a refused step changes nothing, and refusals 1 and 2 come before any other and from nothing else.
+-- Assumes nothing.
 use mathlib.Core.Path.{_≡_, refl, sym, ap, subst, _∙_}
-use mathlib.Core.Logic.{_≢_, _⊎_, inl, inr}
-use mathlib.Core.Bool.{Bool, true, false, false≢true, cond, _||_, or-true}
+use mathlib.Core.Logic.{_≢_}
+use mathlib.Core.Bool.{Bool, true, false, false≢true, cond, _||_}
 use mathlib.Core.List.{List}
-use Prim.Native.Nat.{ℕ, _%_, _≤_, _<_}
-use native.Mathlib.Omega.{arith}
+use Prim.Native.Nat.{ℕ, _%_}
 use lib.Dec.{eqb, ltb}
 use lib.ListN.{length}
-use borrow.Author.Tests.{eq-eqb, ne-eqb, eqb-true, eqb-false, lt-ltb, le-ltb}
+use borrow.Author.Tests.{eq-eqb, ne-eqb, eqb-true, eqb-false}
 use Rattle.rules.specs.declared.Channel.{Channel}
 use Rattle.rules.specs.declared.Place.{Place}
 use Rattle.rules.specs.declared.Place.the-variants.{At, Unmodelled}
@@ -26,7 +25,7 @@ use Rattle.rules.specs.declared.Verdict.{Verdict}
 use Rattle.rules.specs.declared.Verdict.the-variants as verdict
 use Rattle.rules.specs.Image.{Image, State, state, imageLength, at, inService}
 use Rattle.rules.specs.Channels.{listOk, dcprByte}
-use Rattle.rules.specs.Outcomes.{Change, change, refuse, Outcome, outcome, changed, verdictOf, refuses, isRefused}
+use Rattle.rules.specs.Outcomes.{Change, change, Outcome, outcome, changed, verdictOf, refuses, isRefused}
 use Rattle.rules.specs.Registers.{readAt, readOf, writeAt, writeOf, resetOf, placeOf}
 use Rattle.rules.specs.Sources.{recordOf}
 use Rattle.rules.specs.Triggers.{triggerVerdict, selects, selectsTop, fire, triggerOf}
@@ -204,26 +203,3 @@ refused-length s cs x = lent-refused s cs x refusal.Length refl
 pub refused-list : (s : State) (cs : List Channel) (x : Step) → stepOf s cs x .answer ≡ answer.Refused refusal.List
     → (length (s .image) ≡ imageLength) × (listOk cs ≡ false)
 refused-list s cs x = lent-refused s cs x refusal.List refl
-
--- ---- a transfer
-
-module _ (m : Image) (c : Channel) (s : ℕ) where
-  -- refusal 5 comes first: DCPR bit 0 is 0, whatever the pointers are
-  pub memory-first : at m (dcprByte c) % 2 ≡ 0 → transferOf m c s ≡ refuse refusal.Memory m
-  unfolding transferOf
-  memory-first h = rw (eq-eqb (at m (dcprByte c) % 2) 0 h)
-
-  odd : at m (dcprByte c) % 2 ≡ 1 → (b : Bool) → (ltb lastRegister (pairOf m c) || ltb lastRegister (at m (pairOf m c))) ≡ b
-      → transferOf m c s ≡ cond b (refuse refusal.Pointer m) (served m c s)
-  unfolding transferOf
-  odd h b e = rw (ne-eqb (at m (dcprByte c) % 2) 0 (omega arith), e)
-
-  -- refusal 6 next: n or a is over 223
-  pub pointer-second : at m (dcprByte c) % 2 ≡ 1 → (lastRegister < pairOf m c) ⊎ (lastRegister < at m (pairOf m c))
-      → transferOf m c s ≡ refuse refusal.Pointer m
-  pointer-second h (inl p) = odd h true (rw (lt-ltb lastRegister (pairOf m c) p))
-  pointer-second h (inr q) = odd h true (rw (lt-ltb lastRegister (at m (pairOf m c)) q) (or-true (ltb lastRegister (pairOf m c))))
-
-  -- otherwise the byte moves
-  pub transfer-accepted : at m (dcprByte c) % 2 ≡ 1 → pairOf m c ≤ lastRegister → at m (pairOf m c) ≤ lastRegister → transferOf m c s ≡ served m c s
-  transfer-accepted h p q = odd h false (rw (le-ltb lastRegister (pairOf m c) p, le-ltb lastRegister (at m (pairOf m c)) q))

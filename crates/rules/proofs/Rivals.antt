@@ -21,7 +21,8 @@ use Rattle.rules.specs.Runs.{Event, history, stateAfter, one, counted}
 use Rattle.rules.specs.Waiting.{rival, within, triggers, triggersOf, E, Calm, Calls}
 use Rattle.rules.proofs.Refusals.{accepted-acts}
 use Rattle.rules.proofs.Views.{Same, same-refl, same-trans}
-use Rattle.rules.proofs.Effects.{selects-there, call-same}
+use Rattle.rules.proofs.Effects.{call-same}
+use Rattle.rules.proofs.SelectionLaws.{selected-there}
 use Rattle.rules.proofs.Wait.{calm-same, rival-same, event}
 
 -- after each call, all but the pending bits is as at the start
@@ -56,7 +57,7 @@ module _ (m : Image) (cs : List Channel) (a : Calm m cs) (r q : ℕ → Bool) (s
       → (not (isRefused (fire m cs v (selects m t) (selectsTop m t) .answer)) && within r (selects m t))
       ≡ (not (isRefused (fire m cs v (selects m t) (selectsTop m t) .answer)) && within q (selects m t))
   unfolding fire
-  fire-triggers t verdict.Accepted e = within-same (selects m t) (λ w d. selects-there m cs t w e d)
+  fire-triggers t verdict.Accepted e = within-same (selects m t) (selected-there m cs t e)
   fire-triggers t (verdict.Refused n) e = refl
 
   -- a trigger that is not refused is of a source that is there, so two sets with the same of these have the same triggers

@@ -1,0 +1,249 @@
+-- Document 01's acknowledgement, read a second time: what it changes and what it leaves, mode by mode, and its vector and level said in another way.
+-- Assumes nothing.
+use mathlib.Core.Path.{_≡_, refl, sym, ap, _∙_}
+use mathlib.Core.Logic.{_≢_, _⊎_, inl, inr}
+use mathlib.Core.List.{List}
+use mathlib.Core.Bool.{Bool, true, false, cond, _||_, or-false}
+use Prim.Native.Nat.{ℕ, _+_, _*_, _/_, _%_, _^_, _≤_, _<_}
+use native.Mathlib.Omega.{arith}
+use native.Mathlib.Nat.{mod-lt, zero-lt-suc}
+use lib.Dec.{lit<, lit≤, eqb, leb}
+use lib.ListN.{length}
+use lib.Pow.{shr-shr}
+use borrow.Author.Tests.{ltb-false, lt-ltb, le-ltb, leb-true, leb-false, ne-eqb}
+use Rattle.bits.specs.Bits.{digit, bit}
+use Rattle.bits.proofs.BitLaws.{digit-lt}
+use Rattle.bits.proofs.Tests.{same-below}
+use Rattle.rules.specs.declared.Channel.{Channel}
+use Rattle.rules.specs.Image.{Image, imageLength, at, has, put, Bit, bitOf, CPL, HL, IAM, IEN, TLNM, CICR, NICR, EIPR, EIMR, EIPLR, EIVR, MARK}
+use Rattle.rules.specs.Channels.{idcrByte, ivrByte, listOk}
+use Rattle.rules.specs.Sources.{sources, external, recordOf, PRL, pendingBit, pending, unmasked, dmaEnabled, externalLevel, level}
+use Rattle.rules.specs.Arbitration.{vectorOf, nested, acknowledged}
+use Rattle.rules.proofs.Bools.{cond-elim, cond-same, cond-or}
+use Rattle.rules.proofs.ImageLaws.{Apart, put-length, at-put-other, has-put-same, has-put-bit, has-put-other, low-put, putCPL-length, at-putCPL-other, CPL-putCPL, has-putCPL}
+use Rattle.rules.proofs.ChannelLaws.{OnPage}
+use Rattle.rules.proofs.PendingLaws.{idcr-on-page, pending-elim, pending-number, pending-elsewhere, pending-not-idcr, pending-put-same, pending-put-other, pending-same}
+
+-- ---- the push
+
+CPL-lt : (m : Image) → CPL m < 8
+CPL-lt m = mod-lt (at m CICR) (zero-lt-suc 7)
+
+module _ (m : Image) (l : ℕ) where
+  -- HLx is set for x = CPL, where CPL is at most 6
+  abbrev pushed : Image
+  pushed = cond (leb (CPL m) 6) (put m (HL (CPL m)) true) m
+
+  pushed-length : length pushed ≡ length m
+  pushed-length = cond-elim (λ x. length x ≡ length m) (leb (CPL m) 6) (λ t. put-length m (HL (CPL m)) true) (λ f. refl)
+
+  nested-length : length (nested m l) ≡ length m
+  unfolding nested
+  nested-length = putCPL-length pushed l ∙ pushed-length
+
+  nested-byte : (j : ℕ) → j ≢ CICR → j ≢ NICR → at (nested m l) j ≡ at m j
+  unfolding nested
+  nested-byte j c n =
+      at-putCPL-other pushed l j c ∙ cond-elim (λ x. at x j ≡ at m j) (leb (CPL m) 6) (λ t. at-put-other m (HL (CPL m)) true j n) (λ f. refl)
+
+  -- HLx is set afterwards exactly if it was, or x is the old CPL
+  nested-HL : NICR < length m → (x : ℕ) → x ≤ 6 → l < 8 → has (nested m l) (HL x) ≡ (has m (HL x) || eqb x (CPL m))
+  unfolding nested
+  nested-HL long x h low =
+      has-putCPL pushed l (HL x) low (inl (λ e. omega arith))
+      ∙ cond-elim (λ i. has i (HL x) ≡ (has m (HL x) || eqb x (CPL m))) (leb (CPL m) 6)
+      (λ t. has-put-bit m (HL (CPL m)) true x long (CPL-lt m) (omega arith) ∙ cond-or (eqb x (CPL m)) (has m (HL x)))
+      (λ f. rw (ne-eqb x (CPL m) (λ e. omega (arith, leb-false (CPL m) 6 f))) (sym (or-false (has m (HL x)))))
+
+  -- any bit but CPL's three and HL's seven
+  nested-bit : (c : Bit) → c .number < 8 → l < 8 → (c .byte ≢ CICR) ⊎ (3 ≤ c .number) → (c .byte ≢ NICR) ⊎ (7 ≤ c .number) → has (nested m l) c ≡ has m c
+  unfolding nested
+  nested-bit c h low p q =
+      has-putCPL pushed l c low p
+      ∙ cond-elim (λ x. has x c ≡ has m c) (leb (CPL m) 6) (λ t. has-put-other m (HL (CPL m)) true c (CPL-lt m) h (apart q (leb-true (CPL m) 6 t))) (λ f. refl)
+    where
+      apart : (c .byte ≢ NICR) ⊎ (7 ≤ c .number) → CPL m ≤ 6 → Apart c (HL (CPL m))
+      apart (inl d) t = inl d
+      apart (inr g) t = inr (λ e. omega arith)
+
+-- ---- the acknowledgement of source s at level l
+
+module _ (m : Image) (cs : List Channel) (s l : ℕ) (long : length m ≡ imageLength) (ok : listOk cs ≡ true) (there : s < sources cs) (low : l < 8) where
+  -- before the pending bit and IEN are cleared
+  abbrev moded : Image
+  moded = cond (has m IAM) (nested m l) m
+
+  moded-length : length moded ≡ imageLength
+  moded-length = cond-elim (λ x. length x ≡ imageLength) (has m IAM) (λ t. nested-length m l ∙ long) (λ f. long)
+
+  -- after the pending bit is cleared
+  abbrev cleared : Image
+  cleared = put moded (pendingBit cs s) false
+
+  -- the image keeps its length
+  pub acknowledged-length : length (acknowledged m cs s l) ≡ imageLength
+  unfolding acknowledged
+  acknowledged-length = put-length cleared IEN false ∙ put-length moded (pendingBit cs s) false ∙ moded-length
+
+  -- clearing IEN leaves the pending bits
+  pending-kept : (k : ℕ) → k < sources cs → pending (acknowledged m cs s l) cs k ≡ pending cleared cs k
+  unfolding acknowledged
+  pending-kept k h = pending-same cs ok cleared (put cleared IEN false) k h (λ j c n t. at-put-other cleared IEN false j c)
+
+  -- it clears the winner's pending bit,
+  pub acknowledged-clears : pending (acknowledged m cs s l) cs s ≡ false
+  acknowledged-clears = pending-kept s there ∙ pending-put-same cs ok moded s false moded-length there
+
+  -- and no other source's
+  pub acknowledged-others : (k : ℕ) → k < sources cs → k ≢ s → pending (acknowledged m cs s l) cs k ≡ pending m cs k
+  acknowledged-others k h d =
+      pending-kept k h ∙ pending-put-other cs ok moded k s false h there d
+      ∙ cond-elim (λ x. pending x cs k ≡ pending m cs k) (has m IAM) (λ t. pending-same cs ok m (nested m l) k h (λ j c n t. nested-byte m l j c n)) (λ f. refl)
+
+  -- IEN is cleared
+  pub acknowledged-IEN : has (acknowledged m cs s l) IEN ≡ false
+  unfolding acknowledged
+  acknowledged-IEN = has-put-same cleared IEN false (rw (put-length moded (pendingBit cs s) false, moded-length) (lit< tt)) (lit< tt)
+
+  -- a bit that is not the pending bit is changed by the mode alone, or is IEN
+  acknowledged-moded : (c : Bit) → c .number < 8 → Apart c IEN → Apart c (pendingBit cs s) → has (acknowledged m cs s l) c ≡ has moded c
+  unfolding acknowledged
+  acknowledged-moded c h a p =
+      has-put-other cleared IEN false c (lit< tt) h a ∙ has-put-other moded (pendingBit cs s) false c (pending-number cs ok s there) h p
+
+  -- and so is a byte, but CICR and the pending bit's
+  moded-byte : (j : ℕ) → j ≢ CICR → j ≢ pendingBit cs s .byte → at (acknowledged m cs s l) j ≡ at moded j
+  unfolding acknowledged
+  moded-byte j c p = at-put-other cleared IEN false j c ∙ at-put-other moded (pendingBit cs s) false j p
+
+  -- every bit stays but IEN, the pending bit, CPL's three and HL's seven
+  pub acknowledged-bit : (c : Bit) → c .number < 8 → Apart c IEN → Apart c (pendingBit cs s)
+      → (c .byte ≢ CICR) ⊎ (3 ≤ c .number) → (c .byte ≢ NICR) ⊎ (7 ≤ c .number) → has (acknowledged m cs s l) c ≡ has m c
+  acknowledged-bit c h a p x y =
+      acknowledged-moded c h a p ∙ cond-elim (λ i. has i c ≡ has m c) (has m IAM) (λ t. nested-bit m l c h low x y) (λ f. refl)
+
+  -- every byte stays but CICR, NICR and the pending bit's
+  pub acknowledged-byte : (j : ℕ) → j ≢ CICR → j ≢ NICR → j ≢ pendingBit cs s .byte → at (acknowledged m cs s l) j ≡ at m j
+  acknowledged-byte j c n p = moded-byte j c p ∙ cond-elim (λ i. at i j ≡ at m j) (has m IAM) (λ t. nested-byte m l j c n) (λ f. refl)
+
+  not-pending : (j : ℕ) → j ≢ EIPR → (OnPage j → ⊥) → j ≢ pendingBit cs s .byte
+  not-pending = pending-elsewhere cs ok s there
+
+  -- the mark stays,
+  pub acknowledged-mark : at (acknowledged m cs s l) MARK ≡ at m MARK
+  acknowledged-mark = acknowledged-byte MARK (λ e. omega arith) (λ e. omega arith) (not-pending MARK (λ e. omega arith) (λ o. omega arith))
+
+  -- TLNM stays, in either mode and at any CPL,
+  pub acknowledged-TLNM : has (acknowledged m cs s l) TLNM ≡ has m TLNM
+  acknowledged-TLNM =
+      acknowledged-bit TLNM (lit< tt) (inl (λ e. omega arith)) (inl (not-pending NICR (λ e. omega arith) (λ o. omega arith))) (inr (lit≤ tt)) (inr (lit≤ tt))
+
+  -- and so do CICR's GCEN, TLIP, TLI and IAM
+  pub acknowledged-CICR : (k : ℕ) → k < 8 → 3 ≤ k → k ≢ 4 → has (acknowledged m cs s l) (bitOf CICR k) ≡ has m (bitOf CICR k)
+  acknowledged-CICR k h g d =
+      acknowledged-bit (bitOf CICR k) h (inr d) (inl (not-pending CICR (λ e. omega arith) (λ o. omega arith))) (inr g) (inl (λ e. omega arith))
+
+  -- CPL is what the mode makes it
+  moded-CPL : CPL (acknowledged m cs s l) ≡ CPL moded
+  unfolding acknowledged
+  moded-CPL =
+      low-put cleared IEN false CICR (lit< tt) (inr (lit≤ tt))
+      ∙ low-put moded (pendingBit cs s) false CICR (pending-number cs ok s there) (inl (not-pending CICR (λ e. omega arith) (λ o. omega arith)))
+
+  -- concurrent mode: every byte stays but CICR and the pending bit's,
+  pub acknowledged-concurrent-byte : has m IAM ≡ false → (j : ℕ) → j ≢ CICR → j ≢ pendingBit cs s .byte → at (acknowledged m cs s l) j ≡ at m j
+  acknowledged-concurrent-byte f j c p = moded-byte j c p ∙ ap (λ (t : Bool). at (cond t (nested m l) m) j) f
+
+  -- NICR among them,
+  pub acknowledged-concurrent-NICR : has m IAM ≡ false → at (acknowledged m cs s l) NICR ≡ at m NICR
+  acknowledged-concurrent-NICR f = acknowledged-concurrent-byte f NICR (λ e. omega arith) (not-pending NICR (λ e. omega arith) (λ o. omega arith))
+
+  -- and CPL stays
+  pub acknowledged-concurrent-CPL : has m IAM ≡ false → CPL (acknowledged m cs s l) ≡ CPL m
+  acknowledged-concurrent-CPL f = moded-CPL ∙ ap (λ (t : Bool). CPL (cond t (nested m l) m)) f
+
+  -- nested mode: CPL becomes the winner's level,
+  pub acknowledged-nested-CPL : has m IAM ≡ true → CPL (acknowledged m cs s l) ≡ l
+  unfolding nested
+  acknowledged-nested-CPL t =
+      moded-CPL ∙ ap (λ (t : Bool). CPL (cond t (nested m l) m)) t
+      ∙ CPL-putCPL (pushed m l) l (rw (pushed-length m l, long) (lit< tt)) low
+
+  -- HLx is set afterwards exactly if it was, or x is the old CPL,
+  pub acknowledged-nested-HL : has m IAM ≡ true → (x : ℕ) → x ≤ 6 → has (acknowledged m cs s l) (HL x) ≡ (has m (HL x) || eqb x (CPL m))
+  acknowledged-nested-HL t x h =
+      acknowledged-moded (HL x) (omega arith) (inl (λ e. omega arith)) (inl (not-pending NICR (λ e. omega arith) (λ o. omega arith)))
+      ∙ ap (λ (t : Bool). has (cond t (nested m l) m) (HL x)) t ∙ nested-HL m l (rw long (lit< tt)) x h low
+
+  -- and at CPL 7 NICR stays whole
+  pub acknowledged-lowest-NICR : CPL m ≡ 7 → at (acknowledged m cs s l) NICR ≡ at m NICR
+  unfolding nested
+  acknowledged-lowest-NICR e =
+      moded-byte NICR (λ e. omega arith) (not-pending NICR (λ e. omega arith) (λ o. omega arith))
+      ∙ cond-elim (λ i. at i NICR ≡ at m NICR) (has m IAM)
+      (λ t. at-putCPL-other (pushed m l) l NICR (λ e. omega arith) ∙ ap (λ (c : ℕ). at (cond (leb c 6) (put m (HL (CPL m)) true) m) NICR) e) (λ f. refl)
+
+  -- each bit of an IDCR stays but IP
+  idcr-bit : (k n : ℕ) → 8 ≤ k → k < sources cs → n < 8 → n ≢ 5
+      → has (acknowledged m cs s l) (bitOf (idcrByte (recordOf cs k)) n) ≡ has m (bitOf (idcrByte (recordOf cs k)) n)
+  idcr-bit k n g h hn d =
+      let on = idcr-on-page cs ok k g h in
+      acknowledged-bit (bitOf (idcrByte (recordOf cs k)) n) hn (inl (λ e. omega arith)) (pending-not-idcr cs ok s there k n g h d)
+      (inl (λ e. omega arith)) (inl (λ e. omega arith))
+
+  -- the masks of all sources stay,
+  pub acknowledged-unmasked : (k : ℕ) → k < sources cs → unmasked (acknowledged m cs s l) cs k ≡ unmasked m cs k
+  unfolding unmasked
+  acknowledged-unmasked k h =
+      cond-same (external k)
+      (λ t. ap (bit k) (acknowledged-byte EIMR (λ e. omega arith) (λ e. omega arith) (not-pending EIMR (λ e. omega arith) (λ o. omega arith))))
+      (λ f. idcr-bit k 3 (ltb-false k 8 f) h (lit< tt) (λ e. omega arith))
+
+  -- their DMA enables,
+  pub acknowledged-dmaEnabled : (k : ℕ) → k < sources cs → dmaEnabled (acknowledged m cs s l) cs k ≡ dmaEnabled m cs k
+  unfolding dmaEnabled
+  acknowledged-dmaEnabled k h = cond-same (external k) (λ t. refl) (λ f. idcr-bit k 4 (ltb-false k 8 f) h (lit< tt) (λ e. omega arith))
+
+  PRL-kept : (k : ℕ) → OnPage (idcrByte (recordOf cs k)) → PRL (acknowledged m cs s l) (recordOf cs k) ≡ PRL m (recordOf cs k)
+  unfolding acknowledged
+  PRL-kept k on =
+      let at-k = idcrByte (recordOf cs k) in
+      low-put cleared IEN false at-k (lit< tt) (inl (λ e. omega arith))
+      ∙ low-put moded (pendingBit cs s) false at-k (pending-number cs ok s there)
+      (pending-elim cs ok s there (λ b. (at-k ≢ b .byte) ⊎ (3 ≤ b .number)) (λ g. inl (λ e. omega arith)) (λ g o. inr (lit≤ tt)))
+      ∙ ap (λ (x : ℕ). x % 8) (cond-elim (λ i. at i at-k ≡ at m at-k) (has m IAM) (λ t. nested-byte m l at-k (λ e. omega arith) (λ e. omega arith)) (λ f. refl))
+
+  -- and their levels
+  pub acknowledged-level : (k : ℕ) → k < sources cs → level (acknowledged m cs s l) cs k ≡ level m cs k
+  unfolding level
+  acknowledged-level k h =
+      cond-same (external k)
+      (λ t. ap (λ (e : ℕ). externalLevel e k) (acknowledged-byte EIPLR (λ e. omega arith) (λ e. omega arith)
+      (not-pending EIPLR (λ e. omega arith) (λ o. omega arith))))
+      (λ f. PRL-kept k (idcr-on-page cs ok k (ltb-false k 8 f) h))
+
+-- ---- the vector and the level
+
+-- the vector of external channel k has EIVR's upper half, and 2k below it
+pub vector-external : (m : Image) (cs : List Channel) (k : ℕ) → k < 8 → (vectorOf m cs k / 16 ≡ at m EIVR / 16) × (vectorOf m cs k % 16 ≡ 2 * k)
+unfolding vectorOf
+vector-external m cs k h = rw (lt-ltb k 8 h) (omega arith, omega arith)
+
+-- the vector of a record is the even one of IVR's pair
+pub vector-record : (m : Image) (cs : List Channel) (s : ℕ) → 8 ≤ s → (vectorOf m cs s / 2 ≡ at m (ivrByte (recordOf cs s)) / 2) × (vectorOf m cs s % 2 ≡ 0)
+unfolding vectorOf
+vector-record m cs s h = rw (le-ltb s 8 h) (omega arith, omega arith)
+
+-- the two group bits are one field of EIPLR: 2 times it, plus k modulo 2
+pub external-level : (e k : ℕ) → k < 8 → externalLevel e k ≡ 2 * (e / 4 ^ (k / 2) % 4) + k % 2
+unfolding externalLevel digit
+external-level e k h =
+    rw (same-below 4 (λ g. 4 ^ g) (λ g. 2 ^ (2 * g)) tt (k / 2) (omega arith), ← shr-shr e (2 * (k / 2)) 1) (omega arith)
+
+-- a level is one of eight
+pub level-lt : (m : Image) (cs : List Channel) (s : ℕ) → level m cs s < 8
+unfolding level externalLevel
+level-lt m cs s =
+    cond-elim (λ x. x < 8) (external s)
+    (λ t. omega (arith, digit-lt (2 * (s / 2) + 1) (at m EIPLR), digit-lt (2 * (s / 2)) (at m EIPLR)))
+    (λ f. mod-lt (at m (idcrByte (recordOf cs s))) (zero-lt-suc 7))

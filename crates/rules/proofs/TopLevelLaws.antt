@@ -1,0 +1,134 @@
+-- Document 01's order of an arbitration and its top level, read a second time: the mark comes first; when the top level is entered, what that and
+-- its return change and leave; what is left to the winner. Assumes nothing.
+use mathlib.Core.Path.{_≡_, sym, ap, _∙_}
+use mathlib.Core.Logic.{_≢_, inr}
+use mathlib.Core.List.{List}
+use mathlib.Core.Bool.{true, false, not, _&&_, and-comm}
+use Prim.Native.Nat.{ℕ, _+_, _-_, _%_, _<_}
+use native.Mathlib.Omega.{arith}
+use native.Mathlib.Decide.{ℕ-discrete}
+use lib.Dec.{lit<, lit≤, eqb}
+use lib.ListN.{length, length-set}
+use lib.Seq.{getD-set-same, getD-set-other}
+use borrow.Author.Tests.{not-false, eqb-true, ne-eqb}
+use Rattle.bits.specs.Bits.{bit}
+use Rattle.rules.specs.declared.Channel.{Channel}
+use Rattle.rules.specs.declared.Answer.the-variants as answer
+use Rattle.rules.specs.declared.Winner.the-variants as winner
+use Rattle.rules.specs.Image.{Image, imageLength, at, has, put, inService, bitOf, CPL, IEN, TLI, TLIP, TLNM, CICR, MARK}
+use Rattle.rules.specs.Channels.{recordAt}
+use Rattle.rules.specs.Outcomes.{change}
+use Rattle.rules.specs.Requests.{winnerOf}
+use Rattle.rules.specs.Transfer.{transferOf}
+use Rattle.rules.specs.Arbitration.{vectorOf, acknowledged, granted, topLevel, enteredTop, arbitration}
+use Rattle.rules.specs.Return.{returned}
+use Rattle.rules.proofs.ImageLaws.{put-length, at-put-other, has-put-same, has-put-other, low-put}
+
+-- ---- the mark, the top level, and what is left to the winner
+
+-- rule 1: with the mark set an arbitration answers Nothing and changes nothing, whatever is pending
+pub mark-first : (m : Image) (cs : List Channel) → inService m ≡ true → arbitration m cs ≡ change answer.Nothing m
+unfolding arbitration
+mark-first m cs t = rw t
+
+-- rule 2, by TLIP and TLNM: never without TLIP; with both, whatever TLI and IEN are; with TLIP alone, exactly with TLI and IEN
+pub top-level-when : (m : Image)
+    → (has m TLIP ≡ false → topLevel m ≡ false)
+    × (has m TLIP ≡ true → has m TLNM ≡ true → topLevel m ≡ true)
+    × (has m TLIP ≡ true → has m TLNM ≡ false → topLevel m ≡ (has m IEN && has m TLI))
+unfolding topLevel
+top-level-when m = (λ p. rw p, λ p n. rw (p, n), λ p n. rw (p, n) (and-comm (has m TLI) (has m IEN)))
+
+-- rules 3 to 5, with neither: where nobody has won nothing changes; record k, as source 8 + k, gets its transfer;
+-- an interrupt is answered with its source, level and vector, and acknowledged
+pub winner-gets : (m : Image) (cs : List Channel) → inService m ≡ false → topLevel m ≡ false
+    → (winnerOf m cs ≡ winner.Nobody → arbitration m cs ≡ change answer.Nothing m)
+    × ((k : ℕ) → winnerOf m cs ≡ winner.Dma (8 + k) → arbitration m cs ≡ transferOf m (recordAt cs k) (8 + k))
+    × ((s l : ℕ) → winnerOf m cs ≡ winner.Interrupt s l → arbitration m cs ≡ change (answer.Interrupt s l (vectorOf m cs s)) (acknowledged m cs s l))
+unfolding arbitration granted
+winner-gets m cs i t = (
+  λ w. rw (i, t, w),
+  λ k w. let e : 8 + k - 8 ≡ k = omega arith in rw (i, t, w, e),
+  λ s l w. rw (i, t, w),
+)
+
+-- ---- entering the top level
+
+module _ (m : Image) (cs : List Channel) (long : length m ≡ imageLength) (idle : inService m ≡ false) (top : topLevel m ≡ true) where
+  entered : arbitration m cs ≡ change answer.TopLevel (enteredTop m)
+  unfolding arbitration
+  entered = rw (idle, top)
+
+  entered-length : length (arbitration m cs .image) ≡ imageLength
+  unfolding enteredTop
+  entered-length = rw entered (length-set (put m TLIP false) MARK 1 ∙ put-length m TLIP false ∙ long)
+
+  -- it is answered so,
+  pub entered-answer : arbitration m cs .answer ≡ answer.TopLevel
+  entered-answer = rw entered
+
+  -- the mark is 1,
+  pub entered-mark : at (arbitration m cs .image) MARK ≡ 1
+  unfolding enteredTop
+  entered-mark = rw entered (getD-set-same (put m TLIP false) MARK 1 0 (rw (put-length m TLIP false, long) (lit< tt)))
+
+  at-CICR : at (arbitration m cs .image) CICR ≡ at (put m TLIP false) CICR
+  unfolding enteredTop
+  at-CICR = rw entered (getD-set-other (put m TLIP false) MARK CICR 1 0 (λ e. omega arith))
+
+  -- TLIP is 0,
+  pub entered-TLIP : has (arbitration m cs .image) TLIP ≡ false
+  entered-TLIP = ap (bit 6) at-CICR ∙ has-put-same m TLIP false (rw long (lit< tt)) (lit< tt)
+
+  -- every other bit of CICR stays, IEN and TLI among them,
+  pub entered-CICR : (k : ℕ) → k < 8 → k ≢ 6 → has (arbitration m cs .image) (bitOf CICR k) ≡ has m (bitOf CICR k)
+  entered-CICR k h d = ap (bit k) at-CICR ∙ has-put-other m TLIP false (bitOf CICR k) (lit< tt) h (inr d)
+
+  -- and so does CPL,
+  pub entered-CPL : CPL (arbitration m cs .image) ≡ CPL m
+  entered-CPL = ap (λ (x : ℕ). x % 8) at-CICR ∙ low-put m TLIP false CICR (lit< tt) (inr (lit≤ tt))
+
+  -- and every byte but CICR and the mark
+  pub entered-byte : (j : ℕ) → j ≢ CICR → j ≢ MARK → at (arbitration m cs .image) j ≡ at m j
+  unfolding enteredTop
+  entered-byte j c k = rw entered (getD-set-other (put m TLIP false) MARK j 1 0 k ∙ at-put-other m TLIP false j c)
+
+-- ---- its return
+
+module _ (m : Image) (busy : inService m ≡ true) where
+  -- the mark is 0
+  pub top-return-mark : MARK < length m → at (returned m) MARK ≡ 0
+  unfolding returned
+  top-return-mark h = rw busy (getD-set-same m MARK 0 0 h)
+
+  -- and no other byte changes: neither IEN nor CPL nor NICR
+  pub top-return-byte : (j : ℕ) → j ≢ MARK → at (returned m) j ≡ at m j
+  unfolding returned
+  top-return-byte j d = rw busy (getD-set-other m MARK j 0 0 d)
+
+-- ---- a full circle: entered, and returned from
+
+module _ (m : Image) (cs : List Channel) (long : length m ≡ imageLength) (idle : inService m ≡ false) (top : topLevel m ≡ true) where
+  abbrev pub circled : Image
+  circled = returned (arbitration m cs .image)
+
+  busy : inService (arbitration m cs .image) ≡ true
+  busy = rw (entered-mark m cs long idle top)
+
+  -- every byte is as before but CICR,
+  pub circle-byte : (j : ℕ) → j ≢ CICR → at circled j ≡ at m j
+  circle-byte j c = go (ℕ-discrete j MARK)
+    where
+      go : Dec (j ≡ MARK) → at circled j ≡ at m j
+      go (yes e) =
+          rw e (top-return-mark (arbitration m cs .image) busy (rw (entered-length m cs long idle top) (lit< tt))
+          ∙ sym (eqb-true (at m MARK) 0 (not-false (eqb (at m MARK) 0) idle)))
+      go (no d) = top-return-byte (arbitration m cs .image) busy j d ∙ entered-byte m cs long idle top j c d
+
+  -- and of CICR every bit but TLIP, which is 0
+  pub circle-CICR : (k : ℕ) → k < 8 → has circled (bitOf CICR k) ≡ (not (eqb k 6) && has m (bitOf CICR k))
+  circle-CICR k h = ap (bit k) (top-return-byte (arbitration m cs .image) busy CICR (λ e. omega arith)) ∙ go (ℕ-discrete k 6)
+    where
+      go : Dec (k ≡ 6) → has (arbitration m cs .image) (bitOf CICR k) ≡ (not (eqb k 6) && has m (bitOf CICR k))
+      go (yes e) = rw e (entered-TLIP m cs long idle top)
+      go (no d) = rw (ne-eqb k 6 d) (entered-CICR m cs long idle top k h d)
