@@ -18,7 +18,7 @@ use Rattle.rules.specs.declared.Channel.{Channel}
 use Rattle.rules.specs.Image.{Image, imageLength, at, has, put, Bit, bitOf, CPL, HL, IAM, IEN, TLNM, CICR, NICR, EIPR, EIMR, EIPLR, EIVR, MARK}
 use Rattle.rules.specs.Channels.{idcrByte, ivrByte, listOk}
 use Rattle.rules.specs.Sources.{sources, external, recordOf, PRL, pendingBit, pending, unmasked, dmaEnabled, externalLevel, level}
-use Rattle.rules.specs.Arbitration.{vectorOf, nested, acknowledged}
+use Rattle.rules.specs.Arbitration.{pushed, vectorOf, nested, acknowledged}
 use Rattle.rules.proofs.Bools.{cond-elim, cond-same, cond-or}
 use Rattle.rules.proofs.ImageLaws.{Apart, put-length, at-put-other, has-put-same, has-put-bit, has-put-other, low-put, putCPL-length, at-putCPL-other, CPL-putCPL, has-putCPL}
 use Rattle.rules.proofs.ChannelLaws.{OnPage}
@@ -29,38 +29,38 @@ use Rattle.rules.proofs.PendingLaws.{idcr-on-page, pending-elim, pendin
 CPL-lt : (m : Image) → CPL m < 8
 CPL-lt m = mod-lt (at m CICR) (zero-lt-suc 7)
 
-module _ (m : Image) (l : ℕ) where
-  -- HLx is set for x = CPL, where CPL is at most 6
-  abbrev pushed : Image
-  pushed = cond (leb (CPL m) 6) (put m (HL (CPL m)) true) m
+-- HLx is set for x = CPL exactly where CPL is at most 6
+pub pushed-elim : (m : Image) (P : Image → Type 0) → (CPL m ≤ 6 → P (put m (HL (CPL m)) true)) → (6 < CPL m → P m) → P (pushed m)
+unfolding pushed
+pushed-elim m P p q = cond-elim P (leb (CPL m) 6) (λ t. p (leb-true (CPL m) 6 t)) (λ f. q (leb-false (CPL m) 6 f))
 
-  pushed-length : length pushed ≡ length m
-  pushed-length = cond-elim (λ x. length x ≡ length m) (leb (CPL m) 6) (λ t. put-length m (HL (CPL m)) true) (λ f. refl)
+module _ (m : Image) (l : ℕ) where
+  pushed-length : length (pushed m) ≡ length m
+  pushed-length = pushed-elim m (λ x. length x ≡ length m) (λ t. put-length m (HL (CPL m)) true) (λ f. refl)
 
   nested-length : length (nested m l) ≡ length m
   unfolding nested
-  nested-length = putCPL-length pushed l ∙ pushed-length
+  nested-length = putCPL-length (pushed m) l ∙ pushed-length
 
   nested-byte : (j : ℕ) → j ≢ CICR → j ≢ NICR → at (nested m l) j ≡ at m j
   unfolding nested
-  nested-byte j c n =
-      at-putCPL-other pushed l j c ∙ cond-elim (λ x. at x j ≡ at m j) (leb (CPL m) 6) (λ t. at-put-other m (HL (CPL m)) true j n) (λ f. refl)
+  nested-byte j c n = at-putCPL-other (pushed m) l j c ∙ pushed-elim m (λ x. at x j ≡ at m j) (λ t. at-put-other m (HL (CPL m)) true j n) (λ f. refl)
 
   -- HLx is set afterwards exactly if it was, or x is the old CPL
   nested-HL : NICR < length m → (x : ℕ) → x ≤ 6 → l < 8 → has (nested m l) (HL x) ≡ (has m (HL x) || eqb x (CPL m))
   unfolding nested
   nested-HL long x h low =
-      has-putCPL pushed l (HL x) low (inl (λ e. omega arith))
-      ∙ cond-elim (λ i. has i (HL x) ≡ (has m (HL x) || eqb x (CPL m))) (leb (CPL m) 6)
+      has-putCPL (pushed m) l (HL x) low (inl (λ e. omega arith))
+      ∙ pushed-elim m (λ i. has i (HL x) ≡ (has m (HL x) || eqb x (CPL m)))
       (λ t. has-put-bit m (HL (CPL m)) true x long (CPL-lt m) (omega arith) ∙ cond-or (eqb x (CPL m)) (has m (HL x)))
-      (λ f. rw (ne-eqb x (CPL m) (λ e. omega (arith, leb-false (CPL m) 6 f))) (sym (or-false (has m (HL x)))))
+      (λ f. rw (ne-eqb x (CPL m) (λ e. omega arith)) (sym (or-false (has m (HL x)))))
 
   -- any bit but CPL's three and HL's seven
   nested-bit : (c : Bit) → c .number < 8 → l < 8 → (c .byte ≢ CICR) ⊎ (3 ≤ c .number) → (c .byte ≢ NICR) ⊎ (7 ≤ c .number) → has (nested m l) c ≡ has m c
   unfolding nested
   nested-bit c h low p q =
-      has-putCPL pushed l c low p
-      ∙ cond-elim (λ x. has x c ≡ has m c) (leb (CPL m) 6) (λ t. has-put-other m (HL (CPL m)) true c (CPL-lt m) h (apart q (leb-true (CPL m) 6 t))) (λ f. refl)
+      has-putCPL (pushed m) l c low p
+      ∙ pushed-elim m (λ x. has x c ≡ has m c) (λ t. has-put-other m (HL (CPL m)) true c (CPL-lt m) h (apart q t)) (λ f. refl)
     where
       apart : (c .byte ≢ NICR) ⊎ (7 ≤ c .number) → CPL m ≤ 6 → Apart c (HL (CPL m))
       apart (inl d) t = inl d
@@ -70,20 +70,20 @@ module _ (m : Image) (l : ℕ) where
 
 module _ (m : Image) (cs : List Channel) (s l : ℕ) (long : length m ≡ imageLength) (ok : listOk cs ≡ true) (there : s < sources cs) (low : l < 8) where
   -- before the pending bit and IEN are cleared
-  abbrev moded : Image
-  moded = cond (has m IAM) (nested m l) m
+  abbrev afterMode : Image
+  afterMode = cond (has m IAM) (nested m l) m
 
-  moded-length : length moded ≡ imageLength
-  moded-length = cond-elim (λ x. length x ≡ imageLength) (has m IAM) (λ t. nested-length m l ∙ long) (λ f. long)
+  afterMode-length : length afterMode ≡ imageLength
+  afterMode-length = cond-elim (λ x. length x ≡ imageLength) (has m IAM) (λ t. nested-length m l ∙ long) (λ f. long)
 
   -- after the pending bit is cleared
   abbrev cleared : Image
-  cleared = put moded (pendingBit cs s) false
+  cleared = put afterMode (pendingBit cs s) false
 
   -- the image keeps its length
   pub acknowledged-length : length (acknowledged m cs s l) ≡ imageLength
   unfolding acknowledged
-  acknowledged-length = put-length cleared IEN false ∙ put-length moded (pendingBit cs s) false ∙ moded-length
+  acknowledged-length = put-length cleared IEN false ∙ put-length afterMode (pendingBit cs s) false ∙ afterMode-length
 
   -- clearing IEN leaves the pending bits
   pending-kept : (k : ℕ) → k < sources cs → pending (acknowledged m cs s l) cs k ≡ pending cleared cs k
@@ -92,39 +92,39 @@ module _ (m : Image) (cs : List Channel) (s l : ℕ) (long : length m ≡ imageL
 
   -- it clears the winner's pending bit,
   pub acknowledged-clears : pending (acknowledged m cs s l) cs s ≡ false
-  acknowledged-clears = pending-kept s there ∙ pending-put-same cs ok moded s false moded-length there
+  acknowledged-clears = pending-kept s there ∙ pending-put-same cs ok afterMode s false afterMode-length there
 
   -- and no other source's
   pub acknowledged-others : (k : ℕ) → k < sources cs → k ≢ s → pending (acknowledged m cs s l) cs k ≡ pending m cs k
   acknowledged-others k h d =
-      pending-kept k h ∙ pending-put-other cs ok moded k s false h there d
+      pending-kept k h ∙ pending-put-other cs ok afterMode k s false h there d
       ∙ cond-elim (λ x. pending x cs k ≡ pending m cs k) (has m IAM) (λ t. pending-same cs ok m (nested m l) k h (λ j c n t. nested-byte m l j c n)) (λ f. refl)
 
   -- IEN is cleared
   pub acknowledged-IEN : has (acknowledged m cs s l) IEN ≡ false
   unfolding acknowledged
-  acknowledged-IEN = has-put-same cleared IEN false (rw (put-length moded (pendingBit cs s) false, moded-length) (lit< tt)) (lit< tt)
+  acknowledged-IEN = has-put-same cleared IEN false (rw (put-length afterMode (pendingBit cs s) false, afterMode-length) (lit< tt)) (lit< tt)
 
   -- a bit that is not the pending bit is changed by the mode alone, or is IEN
-  acknowledged-moded : (c : Bit) → c .number < 8 → Apart c IEN → Apart c (pendingBit cs s) → has (acknowledged m cs s l) c ≡ has moded c
+  acknowledged-afterMode : (c : Bit) → c .number < 8 → Apart c IEN → Apart c (pendingBit cs s) → has (acknowledged m cs s l) c ≡ has afterMode c
   unfolding acknowledged
-  acknowledged-moded c h a p =
-      has-put-other cleared IEN false c (lit< tt) h a ∙ has-put-other moded (pendingBit cs s) false c (pending-number cs ok s there) h p
+  acknowledged-afterMode c h a p =
+      has-put-other cleared IEN false c (lit< tt) h a ∙ has-put-other afterMode (pendingBit cs s) false c (pending-number cs ok s there) h p
 
   -- and so is a byte, but CICR and the pending bit's
-  moded-byte : (j : ℕ) → j ≢ CICR → j ≢ pendingBit cs s .byte → at (acknowledged m cs s l) j ≡ at moded j
+  afterMode-byte : (j : ℕ) → j ≢ CICR → j ≢ pendingBit cs s .byte → at (acknowledged m cs s l) j ≡ at afterMode j
   unfolding acknowledged
-  moded-byte j c p = at-put-other cleared IEN false j c ∙ at-put-other moded (pendingBit cs s) false j p
+  afterMode-byte j c p = at-put-other cleared IEN false j c ∙ at-put-other afterMode (pendingBit cs s) false j p
 
   -- every bit stays but IEN, the pending bit, CPL's three and HL's seven
   pub acknowledged-bit : (c : Bit) → c .number < 8 → Apart c IEN → Apart c (pendingBit cs s)
       → (c .byte ≢ CICR) ⊎ (3 ≤ c .number) → (c .byte ≢ NICR) ⊎ (7 ≤ c .number) → has (acknowledged m cs s l) c ≡ has m c
   acknowledged-bit c h a p x y =
-      acknowledged-moded c h a p ∙ cond-elim (λ i. has i c ≡ has m c) (has m IAM) (λ t. nested-bit m l c h low x y) (λ f. refl)
+      acknowledged-afterMode c h a p ∙ cond-elim (λ i. has i c ≡ has m c) (has m IAM) (λ t. nested-bit m l c h low x y) (λ f. refl)
 
   -- every byte stays but CICR, NICR and the pending bit's
   pub acknowledged-byte : (j : ℕ) → j ≢ CICR → j ≢ NICR → j ≢ pendingBit cs s .byte → at (acknowledged m cs s l) j ≡ at m j
-  acknowledged-byte j c n p = moded-byte j c p ∙ cond-elim (λ i. at i j ≡ at m j) (has m IAM) (λ t. nested-byte m l j c n) (λ f. refl)
+  acknowledged-byte j c n p = afterMode-byte j c p ∙ cond-elim (λ i. at i j ≡ at m j) (has m IAM) (λ t. nested-byte m l j c n) (λ f. refl)
 
   not-pending : (j : ℕ) → j ≢ EIPR → (OnPage j → ⊥) → j ≢ pendingBit cs s .byte
   not-pending = pending-elsewhere cs ok s there
@@ -144,15 +144,15 @@ module _ (m : Image) (cs : List Channel) (s l : ℕ) (long : length m ≡ imageL
       acknowledged-bit (bitOf CICR k) h (inr d) (inl (not-pending CICR (λ e. omega arith) (λ o. omega arith))) (inr g) (inl (λ e. omega arith))
 
   -- CPL is what the mode makes it
-  moded-CPL : CPL (acknowledged m cs s l) ≡ CPL moded
+  afterMode-CPL : CPL (acknowledged m cs s l) ≡ CPL afterMode
   unfolding acknowledged
-  moded-CPL =
+  afterMode-CPL =
       low-put cleared IEN false CICR (lit< tt) (inr (lit≤ tt))
-      ∙ low-put moded (pendingBit cs s) false CICR (pending-number cs ok s there) (inl (not-pending CICR (λ e. omega arith) (λ o. omega arith)))
+      ∙ low-put afterMode (pendingBit cs s) false CICR (pending-number cs ok s there) (inl (not-pending CICR (λ e. omega arith) (λ o. omega arith)))
 
   -- concurrent mode: every byte stays but CICR and the pending bit's,
   pub acknowledged-concurrent-byte : has m IAM ≡ false → (j : ℕ) → j ≢ CICR → j ≢ pendingBit cs s .byte → at (acknowledged m cs s l) j ≡ at m j
-  acknowledged-concurrent-byte f j c p = moded-byte j c p ∙ ap (λ (t : Bool). at (cond t (nested m l) m) j) f
+  acknowledged-concurrent-byte f j c p = afterMode-byte j c p ∙ ap (λ (t : Bool). at (cond t (nested m l) m) j) f
 
   -- NICR among them,
   pub acknowledged-concurrent-NICR : has m IAM ≡ false → at (acknowledged m cs s l) NICR ≡ at m NICR
@@ -160,28 +160,28 @@ module _ (m : Image) (cs : List Channel) (s l : ℕ) (long : length m ≡ imageL
 
   -- and CPL stays
   pub acknowledged-concurrent-CPL : has m IAM ≡ false → CPL (acknowledged m cs s l) ≡ CPL m
-  acknowledged-concurrent-CPL f = moded-CPL ∙ ap (λ (t : Bool). CPL (cond t (nested m l) m)) f
+  acknowledged-concurrent-CPL f = afterMode-CPL ∙ ap (λ (t : Bool). CPL (cond t (nested m l) m)) f
 
   -- nested mode: CPL becomes the winner's level,
   pub acknowledged-nested-CPL : has m IAM ≡ true → CPL (acknowledged m cs s l) ≡ l
   unfolding nested
   acknowledged-nested-CPL t =
-      moded-CPL ∙ ap (λ (t : Bool). CPL (cond t (nested m l) m)) t
-      ∙ CPL-putCPL (pushed m l) l (rw (pushed-length m l, long) (lit< tt)) low
+      afterMode-CPL ∙ ap (λ (t : Bool). CPL (cond t (nested m l) m)) t
+      ∙ CPL-putCPL (pushed m) l (rw (pushed-length m l, long) (lit< tt)) low
 
   -- HLx is set afterwards exactly if it was, or x is the old CPL,
   pub acknowledged-nested-HL : has m IAM ≡ true → (x : ℕ) → x ≤ 6 → has (acknowledged m cs s l) (HL x) ≡ (has m (HL x) || eqb x (CPL m))
   acknowledged-nested-HL t x h =
-      acknowledged-moded (HL x) (omega arith) (inl (λ e. omega arith)) (inl (not-pending NICR (λ e. omega arith) (λ o. omega arith)))
+      acknowledged-afterMode (HL x) (omega arith) (inl (λ e. omega arith)) (inl (not-pending NICR (λ e. omega arith) (λ o. omega arith)))
       ∙ ap (λ (t : Bool). has (cond t (nested m l) m) (HL x)) t ∙ nested-HL m l (rw long (lit< tt)) x h low
 
   -- and at CPL 7 NICR stays whole
   pub acknowledged-lowest-NICR : CPL m ≡ 7 → at (acknowledged m cs s l) NICR ≡ at m NICR
   unfolding nested
   acknowledged-lowest-NICR e =
-      moded-byte NICR (λ e. omega arith) (not-pending NICR (λ e. omega arith) (λ o. omega arith))
+      afterMode-byte NICR (λ e. omega arith) (not-pending NICR (λ e. omega arith) (λ o. omega arith))
       ∙ cond-elim (λ i. at i NICR ≡ at m NICR) (has m IAM)
-      (λ t. at-putCPL-other (pushed m l) l NICR (λ e. omega arith) ∙ ap (λ (c : ℕ). at (cond (leb c 6) (put m (HL (CPL m)) true) m) NICR) e) (λ f. refl)
+      (λ t. at-putCPL-other (pushed m) l NICR (λ e. omega arith) ∙ pushed-elim m (λ i. at i NICR ≡ at m NICR) (λ h. absurd (omega arith)) (λ h. refl)) (λ f. refl)
 
   -- each bit of an IDCR stays but IP
   idcr-bit : (k n : ℕ) → 8 ≤ k → k < sources cs → n < 8 → n ≢ 5
@@ -209,7 +209,7 @@ module _ (m : Image) (cs : List Channel) (s l : ℕ) (long : length m ≡ imageL
   PRL-kept k on =
       let at-k = idcrByte (recordOf cs k) in
       low-put cleared IEN false at-k (lit< tt) (inl (λ e. omega arith))
-      ∙ low-put moded (pendingBit cs s) false at-k (pending-number cs ok s there)
+      ∙ low-put afterMode (pendingBit cs s) false at-k (pending-number cs ok s there)
       (pending-elim cs ok s there (λ b. (at-k ≢ b .byte) ⊎ (3 ≤ b .number)) (λ g. inl (λ e. omega arith)) (λ g o. inr (lit≤ tt)))
       ∙ ap (λ (x : ℕ). x % 8) (cond-elim (λ i. at i at-k ≡ at m at-k) (has m IAM) (λ t. nested-byte m l at-k (λ e. omega arith) (λ e. omega arith)) (λ f. refl))
 

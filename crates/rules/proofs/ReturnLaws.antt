@@ -14,7 +14,7 @@ use Rattle.rules.specs.Image.{Image, imageLength, at, has, put, inServic
 use Rattle.rules.specs.Channels.{listOk}
 use Rattle.rules.specs.Sources.{sources}
 use Rattle.rules.specs.Arbitration.{acknowledged}
-use Rattle.rules.specs.Return.{restoredLevel, unnested, returned}
+use Rattle.rules.specs.Return.{restoredLevel, popped, unnested, returned}
 use Rattle.rules.proofs.Bools.{cond-elim, cond-and, or-r, true-or}
 use Rattle.rules.proofs.ImageLaws.{Apart, put-length, at-put-other, has-put-same, has-put-bit, has-put-other, low-put, putCPL-length, at-putCPL-other, CPL-putCPL, has-putCPL}
 use Rattle.rules.proofs.AcknowledgementLaws.{acknowledged-length, acknowledged-mark, acknowledged-CICR, acknowledged-nested-HL}
@@ -22,48 +22,49 @@ use Rattle.rules.proofs.RestoredLaws.{restored-le, restored-is, restore
 
 -- ---- the return, where the top level is not in service
 
-module _ (m : Image) (idle : inService m ≡ false) where
-  -- HLx is cleared for the restored level x, where that is below 7
-  abbrev popped : Image
-  popped = cond (ltb (restoredLevel m) 7) (put m (HL (restoredLevel m)) false) m
+-- HLx is cleared for the restored level x exactly where that is below 7
+pub popped-elim : (m : Image) (P : Image → Type 0) → (restoredLevel m < 7 → P (put m (HL (restoredLevel m)) false)) → (7 ≤ restoredLevel m → P m) → P (popped m)
+unfolding popped
+popped-elim m P p q = cond-elim P (ltb (restoredLevel m) 7) (λ t. p (ltb-true (restoredLevel m) 7 t)) (λ f. q (ltb-false (restoredLevel m) 7 f))
 
-  popped-length : length popped ≡ length m
-  popped-length = cond-elim (λ (i : Image). length i ≡ length m) (ltb (restoredLevel m) 7) (λ t. put-length m (HL (restoredLevel m)) false) (λ f. refl)
+module _ (m : Image) (idle : inService m ≡ false) where
+  popped-length : length (popped m) ≡ length m
+  popped-length = popped-elim m (λ (i : Image). length i ≡ length m) (λ t. put-length m (HL (restoredLevel m)) false) (λ f. refl)
 
   -- the mode's part, before IEN is set
-  abbrev moded : Image
-  moded = cond (has m IAM) (unnested m) m
+  abbrev afterMode : Image
+  afterMode = cond (has m IAM) (unnested m) m
 
-  moded-length : length moded ≡ length m
+  afterMode-length : length afterMode ≡ length m
   unfolding unnested
-  moded-length = cond-elim (λ (i : Image). length i ≡ length m) (has m IAM) (λ t. putCPL-length popped (restoredLevel m) ∙ popped-length) (λ f. refl)
+  afterMode-length = cond-elim (λ (i : Image). length i ≡ length m) (has m IAM) (λ t. putCPL-length (popped m) (restoredLevel m) ∙ popped-length) (λ f. refl)
 
   -- IEN is set,
   pub returned-IEN : CICR < length m → has (returned m) IEN ≡ true
   unfolding returned
-  returned-IEN h = rw idle (has-put-same moded IEN true (rw moded-length h) (lit< tt))
+  returned-IEN h = rw idle (has-put-same afterMode IEN true (rw afterMode-length h) (lit< tt))
 
-  moded-bit : (c : Bit) → c .number < 8 → Apart c IEN → has (returned m) c ≡ has moded c
+  afterMode-bit : (c : Bit) → c .number < 8 → Apart c IEN → has (returned m) c ≡ has afterMode c
   unfolding returned
-  moded-bit c h a = rw idle (has-put-other moded IEN true c (lit< tt) h a)
+  afterMode-bit c h a = rw idle (has-put-other afterMode IEN true c (lit< tt) h a)
 
-  moded-byte : (j : ℕ) → j ≢ CICR → at (returned m) j ≡ at moded j
+  afterMode-byte : (j : ℕ) → j ≢ CICR → at (returned m) j ≡ at afterMode j
   unfolding returned
-  moded-byte j d = rw idle (at-put-other moded IEN true j d)
+  afterMode-byte j d = rw idle (at-put-other afterMode IEN true j d)
 
-  moded-CPL : CPL (returned m) ≡ CPL moded
+  afterMode-CPL : CPL (returned m) ≡ CPL afterMode
   unfolding returned
-  moded-CPL = rw idle (low-put moded IEN true CICR (lit< tt) (inr (lit≤ tt)))
+  afterMode-CPL = rw idle (low-put afterMode IEN true CICR (lit< tt) (inr (lit≤ tt)))
 
   -- every bit stays but IEN, CPL's three and HL's seven,
   pub returned-bit : (c : Bit) → c .number < 8 → Apart c IEN → (c .byte ≢ CICR) ⊎ (3 ≤ c .number) → (c .byte ≢ NICR) ⊎ (7 ≤ c .number)
       → has (returned m) c ≡ has m c
   unfolding unnested
   returned-bit c h a x y =
-      moded-bit c h a
-      ∙ cond-elim (λ i. has i c ≡ has m c) (has m IAM) (λ t. has-putCPL popped (restoredLevel m) c (omega (arith, restored-le m)) x
-      ∙ cond-elim (λ i. has i c ≡ has m c) (ltb (restoredLevel m) 7)
-      (λ t. has-put-other m (HL (restoredLevel m)) false c (omega (arith, restored-le m)) h (apart y (ltb-true (restoredLevel m) 7 t))) (λ f. refl)) (λ f. refl)
+      afterMode-bit c h a
+      ∙ cond-elim (λ i. has i c ≡ has m c) (has m IAM) (λ t. has-putCPL (popped m) (restoredLevel m) c (omega (arith, restored-le m)) x
+      ∙ popped-elim m (λ i. has i c ≡ has m c)
+      (λ t. has-put-other m (HL (restoredLevel m)) false c (omega (arith, restored-le m)) h (apart y t)) (λ f. refl)) (λ f. refl)
     where
       apart : (c .byte ≢ NICR) ⊎ (7 ≤ c .number) → restoredLevel m < 7 → Apart c (HL (restoredLevel m))
       apart (inl d) t = inl d
@@ -73,9 +74,9 @@ module _ (m : Image) (idle : inService m ≡ false) where
   pub returned-byte : (j : ℕ) → j ≢ CICR → j ≢ NICR → at (returned m) j ≡ at m j
   unfolding unnested
   returned-byte j c n =
-      moded-byte j c
-      ∙ cond-elim (λ i. at i j ≡ at m j) (has m IAM) (λ t. at-putCPL-other popped (restoredLevel m) j c
-      ∙ cond-elim (λ i. at i j ≡ at m j) (ltb (restoredLevel m) 7) (λ t. at-put-other m (HL (restoredLevel m)) false j n) (λ f. refl)) (λ f. refl)
+      afterMode-byte j c
+      ∙ cond-elim (λ i. at i j ≡ at m j) (has m IAM) (λ t. at-putCPL-other (popped m) (restoredLevel m) j c
+      ∙ popped-elim m (λ i. at i j ≡ at m j) (λ t. at-put-other m (HL (restoredLevel m)) false j n) (λ f. refl)) (λ f. refl)
 
   -- TLNM stays,
   pub returned-TLNM : has (returned m) TLNM ≡ has m TLNM
@@ -87,28 +88,28 @@ module _ (m : Image) (idle : inService m ≡ false) where
 
   -- concurrent mode: every bit of CICR stays but IEN,
   pub returned-concurrent-CICR : has m IAM ≡ false → (k : ℕ) → k < 8 → k ≢ 4 → has (returned m) (bitOf CICR k) ≡ has m (bitOf CICR k)
-  returned-concurrent-CICR f k h d = moded-bit (bitOf CICR k) h (inr d) ∙ ap (λ (t : Bool). has (cond t (unnested m) m) (bitOf CICR k)) f
+  returned-concurrent-CICR f k h d = afterMode-bit (bitOf CICR k) h (inr d) ∙ ap (λ (t : Bool). has (cond t (unnested m) m) (bitOf CICR k)) f
 
   -- and every other byte, NICR among them
   pub returned-concurrent-byte : has m IAM ≡ false → (j : ℕ) → j ≢ CICR → at (returned m) j ≡ at m j
-  returned-concurrent-byte f j d = moded-byte j d ∙ ap (λ (t : Bool). at (cond t (unnested m) m) j) f
+  returned-concurrent-byte f j d = afterMode-byte j d ∙ ap (λ (t : Bool). at (cond t (unnested m) m) j) f
 
   -- nested mode: CPL becomes the restored level,
   pub returned-nested-CPL : has m IAM ≡ true → CICR < length m → CPL (returned m) ≡ restoredLevel m
   unfolding unnested
   returned-nested-CPL t h =
-      moded-CPL ∙ ap (λ (b : Bool). CPL (cond b (unnested m) m)) t
-      ∙ CPL-putCPL popped (restoredLevel m) (rw popped-length h) (omega (arith, restored-le m))
+      afterMode-CPL ∙ ap (λ (b : Bool). CPL (cond b (unnested m) m)) t
+      ∙ CPL-putCPL (popped m) (restoredLevel m) (rw popped-length h) (omega (arith, restored-le m))
 
   -- and HLx is set afterwards exactly if it was, and x is not the restored level
   pub returned-nested-HL : has m IAM ≡ true → NICR < length m → (x : ℕ) → x ≤ 6 → has (returned m) (HL x) ≡ (has m (HL x) && not (eqb x (restoredLevel m)))
   unfolding unnested
   returned-nested-HL t long x h =
-      moded-bit (HL x) (omega arith) (inl (λ e. omega arith)) ∙ ap (λ (b : Bool). has (cond b (unnested m) m) (HL x)) t
-      ∙ has-putCPL popped (restoredLevel m) (HL x) (omega (arith, restored-le m)) (inl (λ e. omega arith))
-      ∙ cond-elim (λ i. has i (HL x) ≡ (has m (HL x) && not (eqb x (restoredLevel m)))) (ltb (restoredLevel m) 7)
+      afterMode-bit (HL x) (omega arith) (inl (λ e. omega arith)) ∙ ap (λ (b : Bool). has (cond b (unnested m) m) (HL x)) t
+      ∙ has-putCPL (popped m) (restoredLevel m) (HL x) (omega (arith, restored-le m)) (inl (λ e. omega arith))
+      ∙ popped-elim m (λ i. has i (HL x) ≡ (has m (HL x) && not (eqb x (restoredLevel m))))
       (λ t. has-put-bit m (HL (restoredLevel m)) false x long (omega (arith, restored-le m)) (omega arith) ∙ cond-and (eqb x (restoredLevel m)) (has m (HL x)))
-      (λ f. rw (ne-eqb x (restoredLevel m) (λ e. omega (arith, ltb-false (restoredLevel m) 7 f))) (sym (and-true (has m (HL x)))))
+      (λ f. rw (ne-eqb x (restoredLevel m) (λ e. omega arith)) (sym (and-true (has m (HL x)))))
 
 -- ---- push and pop
 

@@ -106,28 +106,28 @@ module _ (m : Image) (busy : inService m ≡ true) where
   unfolding returned
   top-return-byte j d = rw busy (getD-set-other m MARK j 0 0 d)
 
--- ---- a full circle: entered, and returned from
+-- ---- entered, and returned from
 
 module _ (m : Image) (cs : List Channel) (long : length m ≡ imageLength) (idle : inService m ≡ false) (top : topLevel m ≡ true) where
-  abbrev pub circled : Image
-  circled = returned (arbitration m cs .image)
+  abbrev pub afterBoth : Image
+  afterBoth = returned (arbitration m cs .image)
 
   busy : inService (arbitration m cs .image) ≡ true
   busy = rw (entered-mark m cs long idle top)
 
   -- every byte is as before but CICR,
-  pub circle-byte : (j : ℕ) → j ≢ CICR → at circled j ≡ at m j
-  circle-byte j c = go (ℕ-discrete j MARK)
+  pub enter-return-byte : (j : ℕ) → j ≢ CICR → at afterBoth j ≡ at m j
+  enter-return-byte j c = go (ℕ-discrete j MARK)
     where
-      go : Dec (j ≡ MARK) → at circled j ≡ at m j
+      go : Dec (j ≡ MARK) → at afterBoth j ≡ at m j
       go (yes e) =
           rw e (top-return-mark (arbitration m cs .image) busy (rw (entered-length m cs long idle top) (lit< tt))
           ∙ sym (eqb-true (at m MARK) 0 (not-false (eqb (at m MARK) 0) idle)))
       go (no d) = top-return-byte (arbitration m cs .image) busy j d ∙ entered-byte m cs long idle top j c d
 
   -- and of CICR every bit but TLIP, which is 0
-  pub circle-CICR : (k : ℕ) → k < 8 → has circled (bitOf CICR k) ≡ (not (eqb k 6) && has m (bitOf CICR k))
-  circle-CICR k h = ap (bit k) (top-return-byte (arbitration m cs .image) busy CICR (λ e. omega arith)) ∙ go (ℕ-discrete k 6)
+  pub enter-return-CICR : (k : ℕ) → k < 8 → has afterBoth (bitOf CICR k) ≡ (not (eqb k 6) && has m (bitOf CICR k))
+  enter-return-CICR k h = ap (bit k) (top-return-byte (arbitration m cs .image) busy CICR (λ e. omega arith)) ∙ go (ℕ-discrete k 6)
     where
       go : Dec (k ≡ 6) → has (arbitration m cs .image) (bitOf CICR k) ≡ (not (eqb k 6) && has m (bitOf CICR k))
       go (yes e) = rw e (entered-TLIP m cs long idle top)

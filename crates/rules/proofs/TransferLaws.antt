@@ -18,7 +18,7 @@ use Rattle.rules.specs.Image.{Image, imageLength, at, has, put, bitOf}
 use Rattle.rules.specs.Channels.{recordAt, idcrByte, dcprByte, dataByte, between, recordOk, listOk}
 use Rattle.rules.specs.Outcomes.{refuse}
 use Rattle.rules.specs.Sources.{IP, DM, IM}
-use Rattle.rules.specs.Transfer.{pairOf, movedByte, lessOne, advanced, settled, served, transferOf}
+use Rattle.rules.specs.Transfer.{pairOf, movedByte, lessOne, advanced, transferred, settled, served, transferOf}
 use Rattle.rules.proofs.Bools.{cond-elim, cond-and, and-r, or-r}
 use Rattle.rules.proofs.ImageLaws.{put-length, at-put-other, has-put-same, has-put-bit, has-put-other}
 use Rattle.rules.proofs.ChannelLaws.{OnPage, record-ok, register-range, registers-apart}
@@ -155,38 +155,37 @@ module _ (m : Image) (cs : List Channel) (k : ℕ) (c : Channel) (s : ℕ) (is :
   next-register : pairOf m c + 1 ≤ 223
   next-register = omega (arith, pair-even m c s)
 
-  -- after the byte has moved, and after address and counter have advanced
+  -- after the byte has moved
   abbrev moved : Image
   moved = movedByte m c (addressOf m c)
-
-  abbrev stepped : Image
-  stepped = advanced moved (pairOf m c) (addressOf m c) (counterOf m c)
 
   inside : (j : ℕ) → j < imageLength → j < length moved
   inside j h = rw (moved-length m c (addressOf m c), long) h
 
-  -- any byte but IDCR is as the advance leaves it, and any byte but Rn and R(n+1) as the move leaves it
-  from-stepped : (j : ℕ) → j ≢ idcrByte c → at (served m c s .image) j ≡ at stepped j
+  -- any byte but IDCR is as the transfer leaves it, and any byte but Rn and R(n+1) as the move leaves it
+  from-transferred : (j : ℕ) → j ≢ idcrByte c → at (served m c s .image) j ≡ at (transferred m c) j
   unfolding served
-  from-stepped j d = settled-byte stepped c (eqb (lessOne (counterOf m c)) 0) j d
+  from-transferred j d = settled-byte (transferred m c) c (eqb (lessOne (counterOf m c)) 0) j d
 
-  from-moved : (j : ℕ) → j ≢ pairOf m c → j ≢ pairOf m c + 1 → at stepped j ≡ at moved j
+  from-moved : (j : ℕ) → j ≢ pairOf m c → j ≢ pairOf m c + 1 → at (transferred m c) j ≡ at moved j
+  unfolding transferred
   from-moved = advanced-other moved (pairOf m c) (addressOf m c) (counterOf m c)
 
   -- Rn becomes the address plus one, whatever the move hit,
   pub transfer-address : at (served m c s .image) (pairOf m c) ≡ addressOf m c + 1
+  unfolding transferred
   transfer-address =
-      from-stepped (pairOf m c) (λ e. omega (arith, idcr-page))
+      from-transferred (pairOf m c) (λ e. omega (arith, idcr-page))
       ∙ advanced-address moved (pairOf m c) (addressOf m c) (counterOf m c) (inside (pairOf m c) (omega arith))
 
   -- R(n+1) the counter less one, and 255 from 0,
   pub transfer-counter : counterOf m c < 256
       → (counterOf m c ≡ 0 → at (served m c s .image) (pairOf m c + 1) ≡ 255)
       × (0 < counterOf m c → at (served m c s .image) (pairOf m c + 1) + 1 ≡ counterOf m c)
-  unfolding lessOne
+  unfolding transferred lessOne
   transfer-counter h =
       let e : at (served m c s .image) (pairOf m c + 1) ≡ (counterOf m c + 255) % 256 =
-      from-stepped (pairOf m c + 1) (λ e. omega (arith, idcr-page, next-register))
+      from-transferred (pairOf m c + 1) (λ e. omega (arith, idcr-page, next-register))
       ∙ advanced-counter moved (pairOf m c) (addressOf m c) (counterOf m c) (inside (pairOf m c + 1) (omega (arith, next-register))) in
       (λ z. omega arith, λ p. omega arith)
 
@@ -194,13 +193,13 @@ module _ (m : Image) (cs : List Channel) (k : ℕ) (c : Channel) (s : ℕ) (is :
   pub transfer-in : c .direction ≡ 0 → addressOf m c ≢ pairOf m c → addressOf m c ≢ pairOf m c + 1
       → at (served m c s .image) (addressOf m c) ≡ at m (dataByte c)
   transfer-in e d f =
-      from-stepped (addressOf m c) (λ e. omega (arith, idcr-page)) ∙ from-moved (addressOf m c) d f
+      from-transferred (addressOf m c) (λ e. omega (arith, idcr-page)) ∙ from-moved (addressOf m c) d f
       ∙ moved-in m c (addressOf m c) e (rw long (omega arith))
 
   -- direction 1: the data register takes Ra's byte as it was, also where that is Rn or R(n+1)
   pub transfer-out : c .direction ≡ 1 → at (served m c s .image) (dataByte c) ≡ at m (addressOf m c)
   transfer-out e =
-      from-stepped (dataByte c) (λ d. idcr-not-data (sym d))
+      from-transferred (dataByte c) (λ d. idcr-not-data (sym d))
       ∙ from-moved (dataByte c) (λ d. omega (arith, data-page)) (λ d. omega (arith, data-page, next-register))
       ∙ moved-out m c (addressOf m c) e (rw long (omega (arith, data-page)))
 
@@ -208,7 +207,7 @@ module _ (m : Image) (cs : List Channel) (k : ℕ) (c : Channel) (s : ℕ) (is :
   pub transfer-frame : (j : ℕ) → j ≢ pairOf m c → j ≢ pairOf m c + 1 → j ≢ idcrByte c → (c .direction ≡ 0 → j ≢ addressOf m c) → (c .direction ≡ 1 → j ≢ dataByte c)
       → at (served m c s .image) j ≡ at m j
   transfer-frame j d e f x y =
-      from-stepped j f ∙ from-moved j d e ∙ moved-other m c (addressOf m c) (direction-le c (rw is (record-ok cs ok k there))) j x y
+      from-transferred j f ∙ from-moved j d e ∙ moved-other m c (addressOf m c) (direction-le c (rw is (record-ok cs ok k there))) j x y
 
   -- and so does each that is neither a register up to R223 nor on pages 1 to 63: CICR, NICR, EIPR and the mark among them
   pub transfer-named : (j : ℕ) → 223 < j → (OnPage j → ⊥) → at (served m c s .image) j ≡ at m j
@@ -221,23 +220,24 @@ module _ (m : Image) (cs : List Channel) (k : ℕ) (c : Channel) (s : ℕ) (is :
   transfer-answer h = ap (answer.Transferred s) (ended-one (counterOf m c) h)
 
   -- IDCR before the end's part is as it was
-  idcr-kept : at stepped (idcrByte c) ≡ at m (idcrByte c)
+  idcr-kept : at (transferred m c) (idcrByte c) ≡ at m (idcrByte c)
   idcr-kept =
       from-moved (idcrByte c) (λ d. omega (arith, idcr-page)) (λ d. omega (arith, idcr-page, next-register))
       ∙ moved-other m c (addressOf m c) (direction-le c (rw is (record-ok cs ok k there))) (idcrByte c) (λ e d. omega (arith, idcr-page)) (λ e. idcr-not-data)
 
-  idcr-inside : idcrByte c < length stepped
+  idcr-inside : idcrByte c < length (transferred m c)
+  unfolding transferred
   idcr-inside = rw (advanced-length moved (pairOf m c) (addressOf m c) (counterOf m c)) (inside (idcrByte c) (omega (arith, idcr-page)))
 
   -- IP is set afterwards exactly at the end of a block with IM set,
   pub transfer-IP : counterOf m c < 256 → has (served m c s .image) (IP c) ≡ (eqb (counterOf m c) 1 && has m (IM c))
   unfolding served
   transfer-IP h =
-      settled-IP stepped c (eqb (lessOne (counterOf m c)) 0) idcr-inside ∙ rw (ended-one (counterOf m c) h, idcr-kept)
+      settled-IP (transferred m c) c (eqb (lessOne (counterOf m c)) 0) idcr-inside ∙ rw (ended-one (counterOf m c) h, idcr-kept)
 
   -- DM stays but at the end of a block, where it is cleared; every other bit of IDCR stays
   pub transfer-IDCR : counterOf m c < 256 → (x : ℕ) → x < 8 → x ≢ 5
       → has (served m c s .image) (bitOf (idcrByte c) x) ≡ (has m (bitOf (idcrByte c) x) && not (eqb (counterOf m c) 1 && eqb x 4))
   unfolding served
   transfer-IDCR h x hx d =
-      settled-bit stepped c (eqb (lessOne (counterOf m c)) 0) x hx d idcr-inside ∙ rw (ended-one (counterOf m c) h, idcr-kept)
+      settled-bit (transferred m c) c (eqb (lessOne (counterOf m c)) 0) x hx d idcr-inside ∙ rw (ended-one (counterOf m c) h, idcr-kept)

@@ -19,9 +19,13 @@ use Rattle.rules.specs.Transfer.{transferOf}
 unfoldable pub vectorOf : Image → List Channel → ℕ → ℕ
 vectorOf m cs s = cond (external s) (at m EIVR / 16 * 16 + 2 * s) (at m (ivrByte (recordOf cs s)) / 2 * 2)
 
--- in nested mode HLx is set for x = CPL if CPL is at most 6, and CPL becomes the winner's level
+-- HLx is set for x = CPL if CPL is at most 6
+unfoldable pub pushed : Image → Image
+pushed m = cond (leb (CPL m) 6) (put m (HL (CPL m)) true) m
+
+-- in nested mode so it is, and CPL becomes the winner's level
 unfoldable pub nested : Image → ℕ → Image
-nested m l = putCPL (cond (leb (CPL m) 6) (put m (HL (CPL m)) true) m) l
+nested m l = putCPL (pushed m) l
 
 -- then the winner's EIPR or IP bit and IEN are cleared
 unfoldable pub acknowledged : Image → List Channel → ℕ → ℕ → Image

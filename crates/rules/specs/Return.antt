@@ -16,9 +16,13 @@ smallest (suc n) p = cond (p 0) 0 (suc (smallest n (λ x. p (suc x))))
 unfoldable pub restoredLevel : Image → ℕ
 restoredLevel m = smallest 7 (λ x. has m (HL x))
 
--- in nested mode CPL becomes that level, and that bit is cleared
+-- that bit is cleared
+unfoldable pub popped : Image → Image
+popped m = cond (ltb (restoredLevel m) 7) (put m (HL (restoredLevel m)) false) m
+
+-- in nested mode so it is, and CPL becomes that level
 unfoldable pub unnested : Image → Image
-unnested m = putCPL (cond (ltb (restoredLevel m) 7) (put m (HL (restoredLevel m)) false) m) (restoredLevel m)
+unnested m = putCPL (popped m) (restoredLevel m)
 
 -- if the mark is set it is cleared and nothing else changes; otherwise IEN is set
 unfoldable pub returned : Image → Image

@@ -27,22 +27,26 @@ movedByte m c a = cond (eqb (c .direction) 0) (set m a (at m (dataByte c))) (set
 unfoldable pub lessOne : ℕ → ℕ
 lessOne c = (c + 255) % 256
 
--- then Rn takes the address read first plus one, R(n+1) the counter read first minus one, whatever the move hit
+-- then Rn and R(n+1) take the address plus one and the counter minus one
 unfoldable pub advanced : Image → ℕ → ℕ → ℕ → Image
 advanced m n a c = set (set m n (a + 1)) (n + 1) (lessOne c)
+
+-- address Rn and counter R(n+1) are read first, so that the new ones stand whatever the move hits
+unfoldable pub transferred : Image → Channel → Image
+transferred m c =
+    let n = pairOf m c in
+    let a = at m n in
+    advanced (movedByte m c a) n a (at m (n + 1))
 
 -- at the end of a block DM is cleared and IP is set exactly if IM = 1; otherwise IP is cleared
 unfoldable pub settled : Image → Channel → Bool → Image
 settled m c ended = put (cond ended (put m (DM c) false) m) (IP c) (ended && has m (IM c))
 
--- source s, whose record is c, is served: address Rn and counter R(n+1) are read first; if the new counter is 0 the block has ended
+-- source s, whose record is c, is served; if the new counter is 0 the block has ended
 unfoldable pub served : Image → Channel → ℕ → Change
 served m c s =
-    let n = pairOf m c in
-    let a = at m n in
-    let count = at m (n + 1) in
-    let ended = eqb (lessOne count) 0 in
-    change (answer.Transferred s ended) (settled (advanced (movedByte m c a) n a count) c ended)
+    let ended = eqb (lessOne (at m (pairOf m c + 1))) 0 in
+    change (answer.Transferred s ended) (settled (transferred m c) c ended)
 
 -- refused with 5 where DCPR bit 0 is 0 (memory), then with 6 where n or a is over 223
 unfoldable pub transferOf : Image → Channel → ℕ → Change
