@@ -2,7 +2,7 @@
 -- Assumes nothing.
 use mathlib.Core.Path.{_≡_, refl, sym, ap, _∙_}
 use mathlib.Core.Bool.{Bool, true, false, false≢true, cond, not, _||_, or-assoc}
-use mathlib.Core.List.{List, [], _∷_, _++_, append-nil}
+use mathlib.Core.List.{List, [], _∷_, _++_}
 use Prim.Native.Nat.{ℕ, zero, suc, _+_, _≤_}
 use native.Mathlib.Numerals.{one-add}
 use native.Mathlib.Omega.{arith}
@@ -79,6 +79,16 @@ module _ (p : Event → Bool) where
       go true h = (1, omega arith, refl)
       go false h = (suc (h .0), omega arith, ap (λ (fs : List Event). e ∷ fs) (h .2))
 
+  -- with none of the kind it is all of them
+  pub until-whole : (es : List Event) → any p es ≡ false → until p es ≡ es
+  unfolding any until
+  until-whole [] h = refl
+  until-whole (e ∷ es) h = go (p e) h (until-whole es)
+    where
+      go : (b : Bool) → (b || any p es) ≡ false → (any p es ≡ false → until p es ≡ es) → (e ∷ cond b [] (until p es)) ≡ e ∷ es
+      go true h ih = absurd (false≢true (sym h))
+      go false h ih = ap (λ (fs : List Event). e ∷ fs) (ih h)
+
   -- with none of the kind it goes on, and with one it stops there
   pub until-append : (es fs : List Event) (b : Bool) → any p es ≡ b → until p (es ++ fs) ≡ cond b (until p es) (es ++ until p fs)
   unfolding any until
@@ -111,8 +121,7 @@ module _ (s : State) (cs : List Channel) (xs : List Step) where
 
   -- with none refused it does all
   pub run-whole : refusedIn (history s cs xs) ≡ false → runEvents s cs xs ≡ history s cs xs
-  unfolding until history
-  run-whole h = simp append-nil at (run-goes-on [] h)
+  run-whole = until-whole eventRefused (history s cs xs)
 
   -- its events are the history of the first steps
   pub run-prefix : (n : ℕ) × (n ≤ length xs) × (runEvents s cs xs ≡ history s cs (take n xs))

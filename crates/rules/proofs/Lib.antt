@@ -22,6 +22,7 @@ pub mod Told
 pub mod StepWords
 pub mod Histories
 pub mod RunLaws
+pub mod WaitLaws
 pub mod Counting
 pub mod Views
 pub mod Effects

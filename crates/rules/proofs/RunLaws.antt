@@ -2,62 +2,31 @@
 use mathlib.Core.Path.{_≡_, refl, sym, ap, _∙_}
 use mathlib.Core.Bool.{Bool, true, false, false≢true, cond, not, _||_}
 use mathlib.Core.List.{List, [], _∷_, _++_}
-use Prim.Native.Nat.{ℕ, suc, _+_, _≤_, _<_}
+use Prim.Native.Nat.{ℕ, suc, _+_}
 use native.Mathlib.Nat.{zero-add}
 use native.Mathlib.Omega.{arith}
 use lib.ListN.{length, take}
-use borrow.Author.Tests.{lt-ltb, le-ltb}
 use Rattle.rules.specs.declared.Channel.{Channel}
 use Rattle.rules.specs.declared.Step.{Step}
 use Rattle.rules.specs.declared.Answer.{Answer}
 use Rattle.rules.specs.declared.Answer.the-variants as answer
 use Rattle.rules.specs.declared.Refusal.{Refusal}
-use Rattle.rules.specs.declared.Refusal.the-variants as refusal
 use Rattle.rules.specs.declared.Verdict.{Verdict}
 use Rattle.rules.specs.declared.Verdict.the-variants as verdict
 use Rattle.rules.specs.declared.Ran.{Ran}
 use Rattle.rules.specs.declared.Ran.the-variants as ran
-use Rattle.rules.specs.declared.Waited.{Waited}
-use Rattle.rules.specs.declared.Waited.the-variants as waited
 use Rattle.rules.specs.Image.{State}
 use Rattle.rules.specs.Outcomes.{refuses, isRefused, verdictOf}
-use Rattle.rules.specs.Sources.{sources}
 use Rattle.rules.specs.Steps.{lentVerdict, stepOf}
-use Rattle.rules.specs.Runs.{Event, history, stateAfter, eventRefused, one, any, counted, until, stepsDone, runEvents, lastAnswer, runOutcome, ranIf, runReport, runIf, runOf, acknowledges, acknowledgedIn, arbitrationsIn, waitEvents, waitedIf, waitOutcome, waitReport, sourceIf, waitVerdict, waitIf, waitOf}
+use Rattle.rules.specs.Runs.{Event, history, stateAfter, eventRefused, one, any, counted, until, stepsDone, runEvents, lastAnswer, runOutcome, ranIf, runReport, runIf, runOf}
 use Rattle.rules.proofs.Refusals.{refused-same}
-use Rattle.rules.proofs.Histories.{history-length, after-append, last-append, counted-append, refusedIn, run-goes-on, run-ends, run-whole, wait-ends, run-after, wait-after}
+use Rattle.rules.proofs.Histories.{history-length, after-append, last-append, counted-append, refusedIn, run-goes-on, run-ends, run-whole, run-after}
 
--- ---- refused before any step: 1 and 2 for what is lent, then for the wait report its source number
-
--- a run refused so does nothing
+-- a run refused before any step, with 1 or 2, does nothing
 pub run-refused : (s : State) (cs : List Channel) (xs : List Step) (r : Refusal) → lentVerdict s cs ≡ verdict.Refused r
     → runOf s cs xs ≡ runOutcome (ran.Refused r) s
 unfolding runOf
 run-refused s cs xs r v = ap (λ (u : Verdict). runIf u s cs xs) v
-
--- and neither does a wait report
-pub wait-refused : (s : State) (cs : List Channel) (source : ℕ) (xs : List Step) (r : Refusal) → waitVerdict s cs source ≡ verdict.Refused r
-    → waitOf s cs source xs ≡ waitOutcome (waited.Refused r) s
-unfolding waitOf
-wait-refused s cs source xs r v = ap (λ (u : Verdict). waitIf u s cs source xs) v
-
-module _ (s : State) (cs : List Channel) (source : ℕ) where
-  -- what is lent comes first
-  pub lent-first : (r : Refusal) → lentVerdict s cs ≡ verdict.Refused r → waitVerdict s cs source ≡ verdict.Refused r
-  unfolding waitVerdict
-  lent-first r v = ap (λ (u : Verdict). sourceIf u cs source) v
-
-  -- refusal 4 next: there is no such source
-  pub source-next : lentVerdict s cs ≡ verdict.Accepted → sources cs ≤ source → waitVerdict s cs source ≡ verdict.Refused refusal.Number
-  unfolding waitVerdict
-  source-next v h = rw (v, le-ltb source (sources cs) h)
-
-  -- otherwise the steps are done
-  pub wait-accepted : lentVerdict s cs ≡ verdict.Accepted → source < sources cs → waitVerdict s cs source ≡ verdict.Accepted
-  unfolding waitVerdict
-  wait-accepted v h = rw (v, lt-ltb source (sources cs) h)
-
--- ---- the run
 
 -- with none refused, all the steps are done
 done-all : (es : List Event) → refusedIn es ≡ false → stepsDone es ≡ length es
@@ -142,66 +111,3 @@ run-leaves s cs xs = go (lentVerdict s cs)
     go : (v : Verdict) → runIf v s cs xs .state ≡ stateAfter s (history s cs (take (stepsIn (runIf v s cs xs .answer)) xs))
     go verdict.Accepted = simp (ran-steps, zero-add) (run-after s cs xs)
     go (verdict.Refused r) = refl
-
--- ---- the wait report
-
--- the arbitrations that a wait report answers with
-abbrev pub arbitrationsOf : Waited → ℕ
-arbitrationsOf (waited.Refused r) = 0
-arbitrationsOf (waited.RefusedAt r i k) = k
-arbitrationsOf (waited.Ended k) = k
-arbitrationsOf (waited.Acknowledged k) = k
-
--- a number that is m of each answer a wait report of what is accepted may give
-waited-each : (f : Waited → ℕ) (m source n k : ℕ) (a : Answer) → f (waited.Acknowledged k) ≡ m → f (waited.Ended k) ≡ m
-    → ((r : Refusal) → f (waited.RefusedAt r n k) ≡ m) → (v : Verdict) → f (waitedIf v source n k a) ≡ m
-waited-each f m source n k a p q h (verdict.Refused r) = h r
-waited-each f m source n k a p q h verdict.Accepted = go (acknowledges source a)
-  where
-    go : (b : Bool) → f (cond b (waited.Acknowledged k) (waited.Ended k)) ≡ m
-    go true = p
-    go false = q
-
--- a wait report counts the arbitrations among its events, which are the run's up to the acknowledgement
-pub wait-count : (s : State) (cs : List Channel) (source : ℕ) (xs : List Step) → waitVerdict s cs source ≡ verdict.Accepted
-    → (w : Waited) → waitOf s cs source xs .answer ≡ w → arbitrationsOf w ≡ arbitrationsIn (waitEvents s cs source xs)
-unfolding waitOf waitReport
-wait-count s cs source xs v w p =
-    let es : List Event = waitEvents s cs source xs in
-    let a : Answer = lastAnswer answer.NoStep es in
-    sym (ap arbitrationsOf (ap (λ (u : Verdict). waitIf u s cs source xs .answer) (sym v) ∙ p))
-    ∙ waited-each arbitrationsOf (0 + arbitrationsIn es) source (0 + stepsDone es) (0 + arbitrationsIn es) a refl refl (λ r. refl) (verdictOf a)
-    ∙ zero-add (arbitrationsIn es)
-
--- steps after the acknowledgement are never looked at, whatever they are
-pub wait-stops : (s : State) (cs : List Channel) (source : ℕ) (xs ys : List Step) → acknowledgedIn source (runEvents s cs xs) ≡ true
-    → waitOf s cs source (xs ++ ys) ≡ waitOf s cs source xs
-unfolding waitOf
-wait-stops s cs source xs ys h = go (waitVerdict s cs source)
-  where
-    go : (v : Verdict) → waitIf v s cs source (xs ++ ys) ≡ waitIf v s cs source xs
-    go verdict.Accepted = ap (waitReport source s 0 0 answer.NoStep) (wait-ends s cs source xs ys h)
-    go (verdict.Refused r) = refl
-
--- the index that it answers with, n where there is none
-abbrev indexOr : ℕ → Waited → ℕ
-indexOr n (waited.Refused r) = n
-indexOr n (waited.RefusedAt r i k) = i
-indexOr n (waited.Ended k) = n
-indexOr n (waited.Acknowledged k) = n
-
--- refused at a step, it leaves what exactly the steps before leave
-pub wait-leaves : (s : State) (cs : List Channel) (source : ℕ) (xs : List Step) (r : Refusal) (i k : ℕ)
-    → waitOf s cs source xs .answer ≡ waited.RefusedAt r i k → waitOf s cs source xs .state ≡ stateAfter s (history s cs (take i xs))
-unfolding waitOf waitReport history stateAfter
-wait-leaves s cs source xs r i k = go (waitVerdict s cs source)
-  where
-    go : (v : Verdict) → waitIf v s cs source xs .answer ≡ waited.RefusedAt r i k → waitIf v s cs source xs .state ≡ stateAfter s (history s cs (take i xs))
-    go verdict.Accepted p =
-        let es : List Event = waitEvents s cs source xs in
-        let a : Answer = lastAnswer answer.NoStep es in
-        let n : ℕ = 0 + stepsDone es in
-        let e : indexOr n (waitIf verdict.Accepted s cs source xs .answer) ≡ n =
-        waited-each (indexOr n) n source n (0 + arbitrationsIn es) a refl refl (λ r. refl) (verdictOf a) in
-        wait-after s cs source xs ∙ ap (λ (n : ℕ). stateAfter s (history s cs (take n xs))) (sym (e ∙ zero-add (stepsDone es)) ∙ ap (indexOr n) p)
-    go (verdict.Refused q) p = ap (λ (n : ℕ). stateAfter s (history s cs (take n xs))) (ap (indexOr 0) p)

@@ -20,7 +20,7 @@ use Rattle.rules.specs.Waiting.{H, E, Start, Calls, InTime, Kept, RunDem
 use Rattle.rules.proofs.Bools.{not-both}
 use Rattle.rules.proofs.Refusals.{lent-accepted}
 use Rattle.rules.proofs.Histories.{run-prefix, wait-prefix}
-use Rattle.rules.proofs.RunLaws.{wait-accepted}
+use Rattle.rules.proofs.WaitLaws.{wait-accepted, acknowledges-accepted, last-tells}
 use Rattle.rules.proofs.Demand3.{demand3}
 
 module _ (m : Image) (cs : List Channel) (s : ℕ) (a : Start m cs s) where
@@ -43,34 +43,6 @@ run-demand3 m cs s a xs c =
 -- ---- the wait report
 
 module _ (s : ℕ) where
-  -- an answer that acknowledges is no refusal
-  acknowledges-accepted : (a : Answer) → acknowledges s a ≡ true → verdictOf a ≡ verdict.Accepted
-  acknowledges-accepted answer.NoStep e = refl
-  acknowledges-accepted (answer.Byte b) e = refl
-  acknowledges-accepted (answer.Written l) e = refl
-  acknowledges-accepted (answer.Triggered f g) e = refl
-  acknowledges-accepted answer.Nothing e = refl
-  acknowledges-accepted answer.TopLevel e = refl
-  acknowledges-accepted (answer.Interrupt k l v) e = refl
-  acknowledges-accepted (answer.Transferred k t) e = refl
-  acknowledges-accepted answer.Returned e = refl
-  acknowledges-accepted answer.Reset e = refl
-  acknowledges-accepted (answer.Refused r) e = absurd (false≢true e)
-
-  -- up to the acknowledgement, the last answer tells whether there is one
-  last-tells : (es : List Event) (a : Answer) → acknowledges s a ≡ false
-      → acknowledges s (lastAnswer a (until (eventAcknowledges s) es)) ≡ acknowledgedIn s (until (eventAcknowledges s) es)
-  unfolding lastAnswer until any
-  last-tells [] a f = f
-  last-tells (e ∷ es) a f = go (eventAcknowledges s e) refl (last-tells es (e .outcome .answer))
-    where
-      go : (b : Bool) → eventAcknowledges s e ≡ b
-          → (eventAcknowledges s e ≡ false
-          → acknowledges s (lastAnswer (e .outcome .answer) (until (eventAcknowledges s) es)) ≡ acknowledgedIn s (until (eventAcknowledges s) es))
-          → acknowledges s (lastAnswer (e .outcome .answer) (cond b [] (until (eventAcknowledges s) es))) ≡ (b || acknowledgedIn s (cond b [] (until (eventAcknowledges s) es)))
-      go true d ih = d
-      go false d ih = ih d
-
   -- with c arbitrations made before: where each first part of the events with more than b has the acknowledgement, all have b + 1 at most
   abbrev Bounded : ℕ → List Event → ℕ → Type 0
   Bounded b es c =
@@ -105,7 +77,7 @@ module _ (s : ℕ) where
       go : (v : Verdict) (b : Bool) → verdictOf a ≡ v → acknowledges s a ≡ b → WaitWithin bound (waitedIf v s n k a) still
       go verdict.Accepted true e f = rw f (p f)
       go verdict.Accepted false e f = rw f (q f)
-      go (verdict.Refused r) true e f = absurd (false≢true (ap refuses (sym (acknowledges-accepted a f) ∙ e)))
+      go (verdict.Refused r) true e f = absurd (false≢true (ap refuses (sym (acknowledges-accepted s a f) ∙ e)))
       go (verdict.Refused r) false e f = q f
 
 -- a wait report answers within the bound, and with ours pending where it is not acknowledged
