@@ -1,4 +1,4 @@
--- Document 01, "Runs and the wait report": what a run and a wait report answer and leave, and where they stop. Assumes nothing.
+-- Document 01, "Runs and the wait report": what a run answers and leaves, and where it stops. Assumes nothing.
 use mathlib.Core.Path.{_≡_, refl, sym, ap, _∙_}
 use mathlib.Core.Bool.{Bool, true, false, false≢true, cond, not, _||_}
 use mathlib.Core.List.{List, [], _∷_, _++_}

@@ -23,7 +23,7 @@ vectorOf m cs s = cond (external s) (at m EIVR / 16 * 16 + 2 * s) (at m (ivrByte
 unfoldable pub pushed : Image → Image
 pushed m = cond (leb (CPL m) 6) (put m (HL (CPL m)) true) m
 
--- in nested mode so it is, and CPL becomes the winner's level
+-- in nested mode that, and CPL becomes the winner's level
 unfoldable pub nested : Image → ℕ → Image
 nested m l = putCPL (pushed m) l
 
@@ -51,5 +51,6 @@ arbitration m cs =
     cond (inService m) (change answer.Nothing m)
     (cond (topLevel m) (change answer.TopLevel (enteredTop m)) (granted m cs (winnerOf m cs)))
 
+-- an arbitration
 unfoldable pub arbitrateOf : State → List Channel → Outcome
 arbitrateOf s cs = changed s (arbitration (s .image) cs)

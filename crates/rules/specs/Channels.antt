@@ -37,9 +37,11 @@ daprByte c = pageByte (c .page) (c .dapr)
 unfoldable pub dataByte : Channel → ℕ
 dataByte c = pageByte (c .page) (c .io)
 
+-- all five, in this order
 abbrev pub recordBytes : Channel → List ℕ
 recordBytes c = idcrByte c ∷ ivrByte c ∷ dcprByte c ∷ daprByte c ∷ dataByte c ∷ []
 
+-- lo to hi, both included
 abbrev pub between : ℕ → ℕ → ℕ → Bool
 between lo hi x = leb lo x && leb x hi
 
@@ -49,10 +51,12 @@ recordOk c =
     between 1 63 (c .page) && between 240 255 (c .idcr) && between 240 255 (c .ivr) && between 240 255 (c .dcpr)
     && between 240 255 (c .dapr) && between 240 255 (c .io) && leb (c .direction) 1
 
+-- every record is so
 unfoldable pub recordsOk : List Channel → Bool
 recordsOk [] = true
 recordsOk (c ∷ cs) = recordOk c && recordsOk cs
 
+-- x occurs in the list
 unfoldable pub member : ℕ → List ℕ → Bool
 member x [] = false
 member x (y ∷ ys) = eqb x y || member x ys

@@ -59,7 +59,7 @@ EIVR = 246
 abbrev pub NICR : ℕ
 NICR = 247
 
--- the top-level-in-service mark
+-- byte 1264 is the top-level-in-service mark
 abbrev pub MARK : ℕ
 MARK = 1264
 

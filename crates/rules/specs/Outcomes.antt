@@ -27,7 +27,7 @@ pub record Outcome : Type 0 where
 abbrev pub outcome : Answer → State → Outcome
 outcome a s = record { answer = a; state = s }
 
--- a step that changes the image alone
+-- a step that changes, of all that is lent, the image alone
 abbrev pub changed : State → Change → Outcome
 changed s c = outcome (c .answer) (state (c .image))
 
@@ -45,9 +45,11 @@ verdictOf answer.Returned = verdict.Accepted
 verdictOf answer.Reset = verdict.Accepted
 verdictOf (answer.Refused r) = verdict.Refused r
 
+-- a verdict that refuses
 abbrev pub refuses : Verdict → Bool
 refuses verdict.Accepted = false
 refuses (verdict.Refused r) = true
 
+-- an answer that is a refusal
 abbrev pub isRefused : Answer → Bool
 isRefused a = refuses (verdictOf a)

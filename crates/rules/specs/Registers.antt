@@ -39,10 +39,12 @@ recordPlace c p r =
     (cond (eqb r (c .ivr) || eqb r (c .dcpr) || eqb r (c .dapr) || eqb r (c .io)) (At (pageByte p r) 0xff) Unmodelled))
     Unmodelled
 
+-- the first of two places that is one
 abbrev pub orPlace : Place → Place → Place
 orPlace (At i e) other = At i e
 orPlace Unmodelled other = other
 
+-- register r of page p, where it is one of any record's
 unfoldable pub recordsPlace : List Channel → ℕ → ℕ → Place
 recordsPlace [] p r = Unmodelled
 recordsPlace (c ∷ cs) p r = orPlace (recordPlace c p r) (recordsPlace cs p r)
@@ -60,6 +62,7 @@ abbrev pub readAt : Image → Place → Answer
 readAt m (At i e) = answer.Byte (bitAnd (at m i) e)
 readAt m Unmodelled = answer.Refused refusal.Register
 
+-- read register r; 3 where it is not modelled
 unfoldable pub readOf : Image → List Channel → ℕ → Answer
 readOf m cs r = readAt m (placeOf m cs r)
 
@@ -83,6 +86,7 @@ writeAt m (At i e) v =
     change (answer.Written (losses (lostBits i (at m i) new))) (set m i new)
 writeAt m Unmodelled v = refuse refusal.Register m
 
+-- write v to register r; 3 where it is not modelled
 unfoldable pub writeOf : Image → List Channel → ℕ → ℕ → Change
 writeOf m cs r v = writeAt m (placeOf m cs r) v
 
@@ -92,6 +96,7 @@ writeOf m cs r v = writeAt m (placeOf m cs r) v
 unfoldable pub resetByte : Row → ℕ → ℕ
 resetByte w old = bitOr (bitAnd old (255 - w .reset)) (w .value)
 
+-- row k of the table
 unfoldable pub resetRow : ℕ → Image → Image
 resetRow k m = set m (rowPlace k) (resetByte (getD rows k noRow) (at m (rowPlace k)))
 
@@ -116,5 +121,6 @@ abbrev pub viewIf : Verdict → Image → ℕ → List ℕ
 viewIf verdict.Accepted m p = take 16 (drop (pageByte p 240) m)
 viewIf (verdict.Refused r) m p = []
 
+-- the view of page p, whatever PPR holds
 unfoldable pub viewOf : Image → ℕ → List ℕ
 viewOf m p = viewIf (viewVerdict m p) m p

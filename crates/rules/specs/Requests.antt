@@ -39,6 +39,7 @@ wonBy l kind s = cond (eqb kind 0) (winner.Dma s) (winner.Interrupt s l)
 unfoldable pub candidate : Image → List Channel → ℕ → ℕ → ℕ → Winner
 candidate m cs l kind s = cond (eligible m (requestOf m cs s) && isAt l kind (requestOf m cs s)) (wonBy l kind s) winner.Nobody
 
+-- the first of two that is somebody
 abbrev pub orElse : Winner → Winner → Winner
 orElse winner.Nobody other = other
 orElse (winner.Dma s) other = winner.Dma s

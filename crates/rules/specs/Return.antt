@@ -20,13 +20,14 @@ restoredLevel m = smallest 7 (λ x. has m (HL x))
 unfoldable pub popped : Image → Image
 popped m = cond (ltb (restoredLevel m) 7) (put m (HL (restoredLevel m)) false) m
 
--- in nested mode so it is, and CPL becomes that level
+-- in nested mode that, and CPL becomes that level
 unfoldable pub unnested : Image → Image
 unnested m = putCPL (popped m) (restoredLevel m)
 
--- if the mark is set it is cleared and nothing else changes; otherwise IEN is set
+-- if the mark is set it is cleared and nothing else changes; otherwise IEN is set. IAM at this moment decides the mode
 unfoldable pub returned : Image → Image
 returned m = cond (inService m) (set m MARK 0) (put (cond (has m IAM) (unnested m) m) IEN true)
 
+-- a return; it answers nothing more
 unfoldable pub returnOf : Image → Change
 returnOf m = change answer.Returned (returned m)

@@ -39,11 +39,12 @@ unfoldable pub stateAfter : State → List Event → State
 stateAfter s [] = s
 stateAfter s (e ∷ es) = stateAfter (e .outcome .state) es
 
--- one of the events is of a kind
+-- one of the events is of a kind, which is a test of events
 unfoldable pub any : (Event → Bool) → List Event → Bool
 any p [] = false
 any p (e ∷ es) = p e || any p es
 
+-- 1 where a test holds, else 0
 abbrev pub one : Bool → ℕ
 one b = cond b 1 0
 
@@ -57,6 +58,7 @@ unfoldable pub until : (Event → Bool) → List Event → List Event
 until p [] = []
 until p (e ∷ es) = e ∷ cond (p e) [] (until p es)
 
+-- the event's step was refused
 abbrev pub eventRefused : Event → Bool
 eventRefused e = isRefused (e .outcome .answer)
 
@@ -80,6 +82,7 @@ abbrev pub ranIf : Verdict → ℕ → Answer → Ran
 ranIf verdict.Accepted n a = ran.Done n a
 ranIf (verdict.Refused r) n a = ran.RefusedAt r n
 
+-- what a run answers and leaves
 pub record RunOutcome : Type 0 where
   pub answer : Ran
   pub state : State
@@ -91,6 +94,7 @@ runOutcome r s = record { answer = r; state = s }
 unfoldable pub runReport : State → ℕ → Answer → List Event → RunOutcome
 runReport s n a es = runOutcome (ranIf (verdictOf (lastAnswer a es)) (n + stepsDone es) (lastAnswer a es)) (stateAfter s es)
 
+-- the run, or the refusal of what is lent
 abbrev pub runIf : Verdict → State → List Channel → List Step → RunOutcome
 runIf verdict.Accepted s cs xs = runReport s 0 answer.NoStep (runEvents s cs xs)
 runIf (verdict.Refused r) s cs xs = runOutcome (ran.Refused r) s
@@ -115,12 +119,15 @@ acknowledges s answer.Returned = false
 acknowledges s answer.Reset = false
 acknowledges s (answer.Refused r) = false
 
+-- the event's step acknowledged the source
 abbrev pub eventAcknowledges : ℕ → Event → Bool
 eventAcknowledges s e = acknowledges s (e .outcome .answer)
 
+-- the source is acknowledged among the events
 abbrev pub acknowledgedIn : ℕ → List Event → Bool
 acknowledgedIn s es = any (eventAcknowledges s) es
 
+-- an arbitration step
 abbrev pub isArbitration : Step → Bool
 isArbitration (step.Read r) = false
 isArbitration (step.Write r v) = false
@@ -146,6 +153,7 @@ abbrev pub waitedIf : Verdict → ℕ → ℕ → ℕ → Answer → Waited
 waitedIf verdict.Accepted source n k a = cond (acknowledges source a) (waited.Acknowledged k) (waited.Ended k)
 waitedIf (verdict.Refused r) source n k a = waited.RefusedAt r n k
 
+-- what a wait report answers and leaves
 pub record WaitOutcome : Type 0 where
   pub answer : Waited
   pub state : State
@@ -163,12 +171,15 @@ abbrev pub sourceIf : Verdict → List Channel → ℕ → Verdict
 sourceIf verdict.Accepted cs source = cond (ltb source (sources cs)) verdict.Accepted (verdict.Refused refusal.Number)
 sourceIf (verdict.Refused r) cs source = verdict.Refused r
 
+-- refusals 1 and 2, then 4
 unfoldable pub waitVerdict : State → List Channel → ℕ → Verdict
 waitVerdict s cs source = sourceIf (lentVerdict s cs) cs source
 
+-- the wait report, or the refusal before any step
 abbrev pub waitIf : Verdict → State → List Channel → ℕ → List Step → WaitOutcome
 waitIf verdict.Accepted s cs source xs = waitReport source s 0 0 answer.NoStep (waitEvents s cs source xs)
 waitIf (verdict.Refused r) s cs source xs = waitOutcome (waited.Refused r) s
 
+-- the wait report for a source
 unfoldable pub waitOf : State → List Channel → ℕ → List Step → WaitOutcome
 waitOf s cs source xs = waitIf (waitVerdict s cs source) s cs source xs

@@ -15,6 +15,7 @@ use Rattle.rules.specs.Channels.{recordAt, idcrByte}
 unfoldable pub sources : List Channel → ℕ
 sources cs = 8 + length cs
 
+-- an external channel
 abbrev pub external : ℕ → Bool
 external s = ltb s 8
 

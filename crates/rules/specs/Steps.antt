@@ -37,6 +37,7 @@ actOf s cs step.Return = changed s (returnOf (s .image))
 actOf s cs step.Reset = changed s (resetOf (s .image))
 actOf s cs step.Unknown = outcome (answer.Refused refusal.Kind) s
 
+-- the step, or the refusal of what is lent
 abbrev pub actIf : Verdict → State → List Channel → Step → Outcome
 actIf verdict.Accepted s cs x = actOf s cs x
 actIf (verdict.Refused r) s cs x = outcome (answer.Refused r) s
@@ -47,17 +48,19 @@ stepOf s cs x = actIf (lentVerdict s cs) s cs x
 
 -- ---- a step as a word: kind * 2^48 + trigger * 2^32 + first * 2^8 + second. A field that its step doesn't use is not looked at.
 
+-- the kind of step, 16 bits
 abbrev pub kindField : ℕ → ℕ
 kindField w = w / 2 ^ 48
 
+-- the kind of trigger, 16 bits
 abbrev pub triggerField : ℕ → ℕ
 triggerField w = w / 2 ^ 32 % 2 ^ 16
 
--- a register, a pin or a record
+-- a register, a pin or a record, 24 bits
 abbrev pub firstField : ℕ → ℕ
 firstField w = w / 2 ^ 8 % 2 ^ 24
 
--- a value or a direction
+-- a value or a direction, 8 bits
 abbrev pub secondField : ℕ → ℕ
 secondField w = w % 2 ^ 8
 
@@ -76,6 +79,7 @@ stepBy kind triggerKind first second =
     (cond (eqb kind 2) (step.Trigger (triggerBy triggerKind first second))
     (cond (eqb kind 3) step.Arbitrate (cond (eqb kind 4) step.Return (cond (eqb kind 5) step.Reset step.Unknown)))))
 
+-- the step that a word stands for
 unfoldable pub decodeOf : ℕ → Step
 decodeOf w = stepBy (kindField w) (triggerField w) (firstField w) (secondField w)
 

@@ -19,6 +19,7 @@ plain = row 0xff 0x00 0x00
 abbrev pub noRow : Row
 noRow = row 0 0 0
 
+-- document 01's table, a row for each register
 unfoldable pub rows : List Row
 rows =
     plain ∷ plain ∷ plain ∷ plain ∷ plain ∷ plain  -- R224 to R229
@@ -35,6 +36,7 @@ rows =
     ∷ row 0xff 0xff 0x00  -- R247 NICR
     ∷ []
 
+-- how many rows there are
 abbrev pub rowCount : ℕ
 rowCount = 22
 

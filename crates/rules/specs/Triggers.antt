@@ -31,6 +31,7 @@ triggerVerdict cs trigger.Unknown = verdict.Refused refusal.Kind
 abbrev pub edge : ℕ → Bool → Bool
 edge d b = eqb d (cond b 1 0)
 
+-- source s, where a test holds
 abbrev pub selectIf : Bool → ℕ → Option ℕ
 selectIf true s = some s
 selectIf false s = none
@@ -56,17 +57,21 @@ selectsTop m trigger.Unknown = false
 abbrev pub effectOn : Bool → Effect
 effectOn already = cond already effect.Merged effect.Raised
 
+-- what it answers for the maskable bit,
 unfoldable pub sourceEffect : Image → List Channel → Option ℕ → Effect
 sourceEffect m cs none = effect.NotSelected
 sourceEffect m cs (some s) = effectOn (pending m cs s)
 
+-- and what it does to it
 unfoldable pub raiseSource : Image → List Channel → Option ℕ → Image
 raiseSource m cs none = m
 raiseSource m cs (some s) = put m (pendingBit cs s) true
 
+-- what it answers for TLIP,
 unfoldable pub topEffect : Image → Bool → Effect
 topEffect m selected = cond selected (effectOn (has m TLIP)) effect.NotSelected
 
+-- and what it does to it
 unfoldable pub raiseTop : Image → Bool → Image
 raiseTop m selected = cond selected (put m TLIP true) m
 
@@ -76,5 +81,6 @@ fire m cs verdict.Accepted source top =
     change (answer.Triggered (sourceEffect m cs source) (topEffect m top)) (raiseTop (raiseSource m cs source) top)
 fire m cs (verdict.Refused r) source top = refuse r m
 
+-- a trigger: refused, or answered for both bits
 unfoldable pub triggerOf : Image → List Channel → Trigger → Change
 triggerOf m cs t = fire m cs (triggerVerdict cs t) (selects m t) (selectsTop m t)
