@@ -185,6 +185,12 @@ pub accepted-acts : (s : State) (cs : List Channel) (x : Step) → length (s .im
 unfolding stepOf
 accepted-acts s cs x h l = ap (λ (v : Verdict). actIf v s cs x) (lent-accepted s cs h l)
 
+-- a step of unknown kind is then refused with 7
+pub unknown-step : (s : State) (cs : List Channel) → length (s .image) ≡ imageLength → listOk cs ≡ true
+    → stepOf s cs step.Unknown ≡ outcome (answer.Refused refusal.Kind) s
+unfolding actOf
+unknown-step s cs = accepted-acts s cs step.Unknown
+
 -- a step that is refused for what is lent is so by the verdict on it, and by no rule below
 lent-refused : (s : State) (cs : List Channel) (x : Step) (r : Refusal) → forLent (verdict.Refused r) ≡ true → stepOf s cs x .answer ≡ answer.Refused r
     → Lent s cs (verdict.Refused r)

@@ -5,7 +5,7 @@ use mathlib.Core.List.{List, [], _∷_, _++_}
 use Prim.Native.Nat.{ℕ, _+_, _≤_, _<_}
 use native.Mathlib.Nat.{zero-add}
 use lib.ListN.{take}
-use borrow.Author.Tests.{lt-ltb, le-ltb}
+use borrow.Author.Tests.{eqb-true, eq-eqb, lt-ltb, le-ltb}
 use Rattle.rules.specs.declared.Channel.{Channel}
 use Rattle.rules.specs.declared.Step.{Step}
 use Rattle.rules.specs.declared.Answer.{Answer}
@@ -124,19 +124,27 @@ wait-leaves s cs source xs r i k = go (waitVerdict s cs source)
 -- ---- which end it is
 
 module _ (s : ℕ) where
-  -- an answer that acknowledges is no refusal
+  -- only an interrupt answered with the source's number acknowledges it: neither a DMA service of it nor the top level
+  pub acknowledges-interrupt : (a : Answer) → acknowledges s a ≡ true → (l : ℕ) × (v : ℕ) × (a ≡ answer.Interrupt s l v)
+  acknowledges-interrupt answer.NoStep e = absurd (false≢true e)
+  acknowledges-interrupt (answer.Byte b) e = absurd (false≢true e)
+  acknowledges-interrupt (answer.Written l) e = absurd (false≢true e)
+  acknowledges-interrupt (answer.Triggered f g) e = absurd (false≢true e)
+  acknowledges-interrupt answer.Nothing e = absurd (false≢true e)
+  acknowledges-interrupt answer.TopLevel e = absurd (false≢true e)
+  acknowledges-interrupt (answer.Interrupt k l v) e = (l, v, ap (λ (k : ℕ). answer.Interrupt k l v) (eqb-true k s e))
+  acknowledges-interrupt (answer.Transferred k t) e = absurd (false≢true e)
+  acknowledges-interrupt answer.Returned e = absurd (false≢true e)
+  acknowledges-interrupt answer.Reset e = absurd (false≢true e)
+  acknowledges-interrupt (answer.Refused r) e = absurd (false≢true e)
+
+  -- and every such answer does
+  pub interrupt-acknowledges : (l v : ℕ) → acknowledges s (answer.Interrupt s l v) ≡ true
+  interrupt-acknowledges l v = eq-eqb s s refl
+
+  -- so it is no refusal
   pub acknowledges-accepted : (a : Answer) → acknowledges s a ≡ true → verdictOf a ≡ verdict.Accepted
-  acknowledges-accepted answer.NoStep e = refl
-  acknowledges-accepted (answer.Byte b) e = refl
-  acknowledges-accepted (answer.Written l) e = refl
-  acknowledges-accepted (answer.Triggered f g) e = refl
-  acknowledges-accepted answer.Nothing e = refl
-  acknowledges-accepted answer.TopLevel e = refl
-  acknowledges-accepted (answer.Interrupt k l v) e = refl
-  acknowledges-accepted (answer.Transferred k t) e = refl
-  acknowledges-accepted answer.Returned e = refl
-  acknowledges-accepted answer.Reset e = refl
-  acknowledges-accepted (answer.Refused r) e = absurd (false≢true e)
+  acknowledges-accepted a e = ap verdictOf (acknowledges-interrupt a e .2)
 
   -- up to the acknowledgement, the last answer tells whether there is one
   pub last-tells : (es : List Event) (a : Answer) → acknowledges s a ≡ false
