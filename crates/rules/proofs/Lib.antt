@@ -4,6 +4,7 @@ pub mod ChannelLaws
 pub mod ListLaws
 pub mod PlaceLaws
 pub mod WriteLaws
+pub mod StepLaws
 pub mod ResetLaws
 pub mod ViewLaws
 pub mod PendingLaws
