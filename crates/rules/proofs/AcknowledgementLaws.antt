@@ -8,7 +8,8 @@ use Prim.Native.Nat.{ℕ, _+_, _*_, _/_, _%_, _^_, _≤_, _<_}
 use native.Mathlib.Omega.{arith}
 use native.Mathlib.Nat.{mod-lt, zero-lt-suc}
 use lib.Dec.{lit<, lit≤, eqb, leb}
-use lib.ListN.{length}
+use lib.ListN.{length, length-set}
+use lib.Seq.{getD-set-other}
 use lib.Pow.{shr-shr}
 use borrow.Author.Tests.{ltb-false, lt-ltb, le-ltb, leb-true, leb-false, ne-eqb}
 use Rattle.bits.specs.Bits.{digit, bit}
@@ -18,7 +19,7 @@ use Rattle.rules.specs.declared.Channel.{Channel}
 use Rattle.rules.specs.Image.{Image, imageLength, at, has, put, Bit, bitOf, CPL, HL, IAM, IEN, TLNM, CICR, NICR, EIPR, EIMR, EIPLR, EIVR, MARK}
 use Rattle.rules.specs.Channels.{idcrByte, ivrByte, listOk}
 use Rattle.rules.specs.Sources.{sources, external, recordOf, PRL, pendingBit, pending, unmasked, dmaEnabled, externalLevel, level}
-use Rattle.rules.specs.Arbitration.{pushed, vectorOf, nested, acknowledged}
+use Rattle.rules.specs.Arbitration.{cleared, pushed, vectorOf, nested, acknowledged}
 use Rattle.rules.proofs.Bools.{cond-elim, cond-same, cond-or}
 use Rattle.rules.proofs.ImageLaws.{Apart, put-length, at-put-other, has-put-same, has-put-bit, has-put-other, low-put, putCPL-length, at-putCPL-other, CPL-putCPL, has-putCPL}
 use Rattle.rules.proofs.ChannelLaws.{OnPage}
@@ -66,6 +67,23 @@ module _ (m : Image) (l : ℕ) where
       apart (inl d) t = inl d
       apart (inr g) t = inr (λ e. omega arith)
 
+-- ---- the pending bit of source s is cleared
+
+module _ (m : Image) (cs : List Channel) (s : ℕ) where
+  cleared-length : length (cleared m cs s) ≡ length m
+  unfolding cleared put
+  cleared-length = length-set m (pendingBit cs s .byte) _
+
+  -- every byte stays but that bit's
+  cleared-byte : (j : ℕ) → j ≢ pendingBit cs s .byte → at (cleared m cs s) j ≡ at m j
+  unfolding cleared put
+  cleared-byte j d = getD-set-other m (pendingBit cs s .byte) j _ 0 d
+
+  -- and every other bit of it
+  cleared-bit : pendingBit cs s .number < 8 → (c : Bit) → c .number < 8 → Apart c (pendingBit cs s) → has (cleared m cs s) c ≡ has m c
+  unfolding cleared
+  cleared-bit small c h p = has-put-other m (pendingBit cs s) false c small h p
+
 -- ---- the acknowledgement of source s at level l
 
 module _ (m : Image) (cs : List Channel) (s l : ℕ) (long : length m ≡ imageLength) (ok : listOk cs ≡ true) (there : s < sources cs) (low : l < 8) where
@@ -76,26 +94,25 @@ module _ (m : Image) (cs : List Channel) (s l : ℕ) (long : length m ≡ imageL
   afterMode-length : length afterMode ≡ imageLength
   afterMode-length = cond-elim (λ x. length x ≡ imageLength) (has m IAM) (λ t. nested-length m l ∙ long) (λ f. long)
 
-  -- after the pending bit is cleared
-  abbrev cleared : Image
-  cleared = put afterMode (pendingBit cs s) false
-
   -- the image keeps its length
   pub acknowledged-length : length (acknowledged m cs s l) ≡ imageLength
   unfolding acknowledged
-  acknowledged-length = put-length cleared IEN false ∙ put-length afterMode (pendingBit cs s) false ∙ afterMode-length
+  acknowledged-length = put-length (cleared afterMode cs s) IEN false ∙ cleared-length afterMode cs s ∙ afterMode-length
 
   -- clearing IEN leaves the pending bits
-  pending-kept : (k : ℕ) → k < sources cs → pending (acknowledged m cs s l) cs k ≡ pending cleared cs k
+  pending-kept : (k : ℕ) → k < sources cs → pending (acknowledged m cs s l) cs k ≡ pending (cleared afterMode cs s) cs k
   unfolding acknowledged
-  pending-kept k h = pending-same cs ok cleared (put cleared IEN false) k h (λ j c n t. at-put-other cleared IEN false j c)
+  pending-kept k h =
+      pending-same cs ok (cleared afterMode cs s) (put (cleared afterMode cs s) IEN false) k h (λ j c n t. at-put-other (cleared afterMode cs s) IEN false j c)
 
   -- it clears the winner's pending bit,
   pub acknowledged-clears : pending (acknowledged m cs s l) cs s ≡ false
+  unfolding cleared
   acknowledged-clears = pending-kept s there ∙ pending-put-same cs ok afterMode s false afterMode-length there
 
   -- and no other source's
   pub acknowledged-others : (k : ℕ) → k < sources cs → k ≢ s → pending (acknowledged m cs s l) cs k ≡ pending m cs k
+  unfolding cleared
   acknowledged-others k h d =
       pending-kept k h ∙ pending-put-other cs ok afterMode k s false h there d
       ∙ cond-elim (λ x. pending x cs k ≡ pending m cs k) (has m IAM) (λ t. pending-same cs ok m (nested m l) k h (λ j c n t. nested-byte m l j c n)) (λ f. refl)
@@ -103,18 +120,18 @@ module _ (m : Image) (cs : List Channel) (s l : ℕ) (long : length m ≡ imageL
   -- IEN is cleared
   pub acknowledged-IEN : has (acknowledged m cs s l) IEN ≡ false
   unfolding acknowledged
-  acknowledged-IEN = has-put-same cleared IEN false (rw (put-length afterMode (pendingBit cs s) false, afterMode-length) (lit< tt)) (lit< tt)
+  acknowledged-IEN = has-put-same (cleared afterMode cs s) IEN false (rw (cleared-length afterMode cs s, afterMode-length) (lit< tt)) (lit< tt)
 
   -- a bit that is not the pending bit is changed by the mode alone, or is IEN
   acknowledged-afterMode : (c : Bit) → c .number < 8 → Apart c IEN → Apart c (pendingBit cs s) → has (acknowledged m cs s l) c ≡ has afterMode c
   unfolding acknowledged
   acknowledged-afterMode c h a p =
-      has-put-other cleared IEN false c (lit< tt) h a ∙ has-put-other afterMode (pendingBit cs s) false c (pending-number cs ok s there) h p
+      has-put-other (cleared afterMode cs s) IEN false c (lit< tt) h a ∙ cleared-bit afterMode cs s (pending-number cs ok s there) c h p
 
   -- and so is a byte, but CICR and the pending bit's
   afterMode-byte : (j : ℕ) → j ≢ CICR → j ≢ pendingBit cs s .byte → at (acknowledged m cs s l) j ≡ at afterMode j
   unfolding acknowledged
-  afterMode-byte j c p = at-put-other cleared IEN false j c ∙ at-put-other afterMode (pendingBit cs s) false j p
+  afterMode-byte j c p = at-put-other (cleared afterMode cs s) IEN false j c ∙ cleared-byte afterMode cs s j p
 
   -- every bit stays but IEN, the pending bit, CPL's three and HL's seven
   pub acknowledged-bit : (c : Bit) → c .number < 8 → Apart c IEN → Apart c (pendingBit cs s)
@@ -147,8 +164,8 @@ module _ (m : Image) (cs : List Channel) (s l : ℕ) (long : length m ≡ imageL
   afterMode-CPL : CPL (acknowledged m cs s l) ≡ CPL afterMode
   unfolding acknowledged
   afterMode-CPL =
-      low-put cleared IEN false CICR (lit< tt) (inr (lit≤ tt))
-      ∙ low-put afterMode (pendingBit cs s) false CICR (pending-number cs ok s there) (inl (not-pending CICR (λ e. omega arith) (λ o. omega arith)))
+      low-put (cleared afterMode cs s) IEN false CICR (lit< tt) (inr (lit≤ tt))
+      ∙ ap (λ (x : ℕ). x % 8) (cleared-byte afterMode cs s CICR (not-pending CICR (λ e. omega arith) (λ o. omega arith)))
 
   -- concurrent mode: every byte stays but CICR and the pending bit's,
   pub acknowledged-concurrent-byte : has m IAM ≡ false → (j : ℕ) → j ≢ CICR → j ≢ pendingBit cs s .byte → at (acknowledged m cs s l) j ≡ at m j
@@ -205,10 +222,10 @@ module _ (m : Image) (cs : List Channel) (s l : ℕ) (long : length m ≡ imageL
   acknowledged-dmaEnabled k h = cond-same (external k) (λ t. refl) (λ f. idcr-bit k 4 (ltb-false k 8 f) h (lit< tt) (λ e. omega arith))
 
   PRL-kept : (k : ℕ) → OnPage (idcrByte (recordOf cs k)) → PRL (acknowledged m cs s l) (recordOf cs k) ≡ PRL m (recordOf cs k)
-  unfolding acknowledged
+  unfolding cleared acknowledged
   PRL-kept k on =
       let at-k = idcrByte (recordOf cs k) in
-      low-put cleared IEN false at-k (lit< tt) (inl (λ e. omega arith))
+      low-put (cleared afterMode cs s) IEN false at-k (lit< tt) (inl (λ e. omega arith))
       ∙ low-put afterMode (pendingBit cs s) false at-k (pending-number cs ok s there)
       (pending-elim cs ok s there (λ b. (at-k ≢ b .byte) ⊎ (3 ≤ b .number)) (λ g. inl (λ e. omega arith)) (λ g o. inr (lit≤ tt)))
       ∙ ap (λ (x : ℕ). x % 8) (cond-elim (λ i. at i at-k ≡ at m at-k) (has m IAM) (λ t. nested-byte m l at-k (λ e. omega arith) (λ e. omega arith)) (λ f. refl))

@@ -18,7 +18,7 @@ use Rattle.rules.specs.Outcomes.{isRefused}
 use Rattle.rules.specs.Sources.{sources, pendingBit}
 use Rattle.rules.specs.Requests.{winnerOf}
 use Rattle.rules.specs.Triggers.{triggerVerdict, selects, selectsTop, raiseSource, raiseTop, fire, triggerOf}
-use Rattle.rules.specs.Arbitration.{acknowledged, granted, topLevel, arbitration, arbitrateOf}
+use Rattle.rules.specs.Arbitration.{cleared, acknowledged, granted, topLevel, arbitration, arbitrateOf}
 use Rattle.rules.specs.Return.{returned, returnOf}
 use Rattle.rules.specs.Steps.{actOf, stepOf}
 use Rattle.rules.specs.Waiting.{Calm, isCall}
@@ -64,7 +64,7 @@ module _ (m : Image) (cs : List Channel) (a : Calm m cs) where
 
   -- an acknowledgement clears the source's pending bit, and IEN
   pub acknowledged-puts : (w l : ℕ) → w < sources cs → Puts cs m (acknowledged m cs w l) w false
-  unfolding acknowledged
+  unfolding cleared acknowledged
   acknowledged-puts w l h =
       let x = put m (pendingBit cs w) false in
       rw (a .concurrent)

@@ -19,6 +19,13 @@ use Rattle.rules.proofs.Bools.{cond-elim, not-both}
 
 -- ---- the smallest number below n of which p holds
 
+smallest-least : (n : ℕ) (p : ℕ → Bool) (y : ℕ) → y < smallest n p → p y ≡ false
+unfolding smallest
+smallest-least zero p y = λ h. absurd (not-suc-le-zero h)
+smallest-least (suc n) p zero = cond-elim (λ x. 0 < x → p 0 ≡ false) (p 0) (λ t h. absurd (not-suc-le-zero h)) (λ f h. f)
+smallest-least (suc n) p (suc y) =
+    cond-elim (λ x. suc y < x → p (suc y) ≡ false) (p 0) (λ t h. absurd (not-suc-le-zero h)) (λ f h. smallest-least n (λ x. p (suc x)) y (le-of-suc-le-suc h))
+
 smallest-le : (n : ℕ) (p : ℕ → Bool) → smallest n p ≤ n
 unfolding smallest
 smallest-le zero p = lit≤ tt
@@ -29,13 +36,6 @@ unfolding smallest
 smallest-holds zero p = λ h. absurd (not-suc-le-zero h)
 smallest-holds (suc n) p =
     cond-elim (λ x. x < suc n → p x ≡ true) (p 0) (λ t h. t) (λ f h. smallest-holds n (λ x. p (suc x)) (le-of-suc-le-suc h))
-
-smallest-least : (n : ℕ) (p : ℕ → Bool) (y : ℕ) → y < smallest n p → p y ≡ false
-unfolding smallest
-smallest-least zero p y = λ h. absurd (not-suc-le-zero h)
-smallest-least (suc n) p zero = cond-elim (λ x. 0 < x → p 0 ≡ false) (p 0) (λ t h. absurd (not-suc-le-zero h)) (λ f h. f)
-smallest-least (suc n) p (suc y) =
-    cond-elim (λ x. suc y < x → p (suc y) ≡ false) (p 0) (λ t h. absurd (not-suc-le-zero h)) (λ f h. smallest-least n (λ x. p (suc x)) y (le-of-suc-le-suc h))
 
 -- it is the only such number
 smallest-is : (n : ℕ) (p : ℕ → Bool) (x : ℕ) → x < n → p x ≡ true → ((y : ℕ) → y < x → p y ≡ false) → smallest n p ≡ x

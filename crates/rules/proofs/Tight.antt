@@ -17,7 +17,7 @@ use Rattle.rules.specs.Channels.{idcrByte, ivrByte, dcprByte, daprByte, 
 use Rattle.rules.specs.Sources.{sources, pendingBit, pending, unmasked, dmaEnabled, externalLevel, level}
 use Rattle.rules.specs.Triggers.{triggerVerdict, selects, selectsTop, sourceEffect, raiseSource, topEffect, raiseTop, fire, triggerOf}
 use Rattle.rules.specs.Requests.{requestOf, eligible, isAt, wonBy, candidate, first, winnerOfKind, winnerAtLevel, winnerOf}
-use Rattle.rules.specs.Arbitration.{vectorOf, acknowledged, granted, topLevel, arbitration, arbitrateOf}
+use Rattle.rules.specs.Arbitration.{vectorOf, cleared, acknowledged, granted, topLevel, arbitration, arbitrateOf}
 use Rattle.rules.specs.Return.{returned, returnOf}
 use Rattle.rules.specs.Steps.{lentVerdict, actOf, stepOf}
 use Rattle.rules.specs.Runs.{Event, any, counted, history, acknowledgedIn, arbitrationsIn, isArbitration}
@@ -97,5 +97,5 @@ calls-by (e ∷ es) h =
 pub tight : Start start channels ours × Calls events × (H start channels ours ≡ 2) × (E start channels ours events ≡ 2)
     × (arbitrationsIn (take 15 events) ≡ 4) × (acknowledgedIn ours (take 15 events) ≡ false)
     × (arbitrationsIn events ≡ 5) × (acknowledgedIn ours events ≡ true)
-unfolding start image digit bit putBit pageByte put idcrByte ivrByte dcprByte daprByte dataByte recordsOk member distinct allBytes listOk sources pendingBit pending unmasked dmaEnabled externalLevel level triggerVerdict selects selectsTop sourceEffect raiseSource topEffect raiseTop fire triggerOf requestOf eligible isAt wonBy candidate first winnerOfKind winnerAtLevel winnerOf vectorOf acknowledged granted topLevel arbitration arbitrateOf returned returnOf lentVerdict actOf stepOf history outranks rival count pendingOf any counted
+unfolding start image digit bit putBit pageByte put idcrByte ivrByte dcprByte daprByte dataByte recordsOk member distinct allBytes listOk sources pendingBit pending unmasked dmaEnabled externalLevel level triggerVerdict selects selectsTop sourceEffect raiseSource topEffect raiseTop fire triggerOf requestOf eligible isAt wonBy candidate first winnerOfKind winnerAtLevel winnerOf vectorOf cleared acknowledged granted topLevel arbitration arbitrateOf returned returnOf lentVerdict actOf stepOf history outranks rival count pendingOf any counted
 tight = (starts, calls-by events refl, refl, refl, refl, refl, refl, refl)

@@ -59,39 +59,44 @@ module _ (m : Image) (cs : List Channel) (long : length m ≡ imageLength) (idle
   unfolding arbitration
   entered = rw (idle, top)
 
-  entered-length : length (arbitration m cs .image) ≡ imageLength
+  -- every bit of CICR stays but TLIP, IEN and TLI among them,
+  pub entered-CICR : (k : ℕ) → k < 8 → k ≢ 6 → has (arbitration m cs .image) (bitOf CICR k) ≡ has m (bitOf CICR k)
   unfolding enteredTop
-  entered-length = rw entered (length-set (put m TLIP false) MARK 1 ∙ put-length m TLIP false ∙ long)
+  entered-CICR k h d =
+      rw entered (ap (bit k) (getD-set-other (put m TLIP false) MARK CICR 1 0 (λ e. omega arith))
+      ∙ has-put-other m TLIP false (bitOf CICR k) (lit< tt) h (inr d))
 
-  -- it is answered so,
-  pub entered-answer : arbitration m cs .answer ≡ answer.TopLevel
-  entered-answer = rw entered
+  -- CPL so too,
+  pub entered-CPL : CPL (arbitration m cs .image) ≡ CPL m
+  unfolding enteredTop
+  entered-CPL =
+      rw entered (ap (λ (x : ℕ). x % 8) (getD-set-other (put m TLIP false) MARK CICR 1 0 (λ e. omega arith))
+      ∙ low-put m TLIP false CICR (lit< tt) (inr (lit≤ tt)))
+
+  -- and every byte but CICR and the mark
+  pub entered-byte : (j : ℕ) → j ≢ CICR → j ≢ MARK → at (arbitration m cs .image) j ≡ at m j
+  unfolding enteredTop
+  entered-byte j c k = rw entered (getD-set-other (put m TLIP false) MARK j 1 0 k ∙ at-put-other m TLIP false j c)
+
+  -- TLIP is 0,
+  pub entered-TLIP : has (arbitration m cs .image) TLIP ≡ false
+  unfolding enteredTop
+  entered-TLIP =
+      rw entered (ap (bit 6) (getD-set-other (put m TLIP false) MARK CICR 1 0 (λ e. omega arith))
+      ∙ has-put-same m TLIP false (rw long (lit< tt)) (lit< tt))
 
   -- the mark is 1,
   pub entered-mark : at (arbitration m cs .image) MARK ≡ 1
   unfolding enteredTop
   entered-mark = rw entered (getD-set-same (put m TLIP false) MARK 1 0 (rw (put-length m TLIP false, long) (lit< tt)))
 
-  at-CICR : at (arbitration m cs .image) CICR ≡ at (put m TLIP false) CICR
+  -- and it is answered so
+  pub entered-answer : arbitration m cs .answer ≡ answer.TopLevel
+  entered-answer = rw entered
+
+  entered-length : length (arbitration m cs .image) ≡ imageLength
   unfolding enteredTop
-  at-CICR = rw entered (getD-set-other (put m TLIP false) MARK CICR 1 0 (λ e. omega arith))
-
-  -- TLIP is 0,
-  pub entered-TLIP : has (arbitration m cs .image) TLIP ≡ false
-  entered-TLIP = ap (bit 6) at-CICR ∙ has-put-same m TLIP false (rw long (lit< tt)) (lit< tt)
-
-  -- every other bit of CICR stays, IEN and TLI among them,
-  pub entered-CICR : (k : ℕ) → k < 8 → k ≢ 6 → has (arbitration m cs .image) (bitOf CICR k) ≡ has m (bitOf CICR k)
-  entered-CICR k h d = ap (bit k) at-CICR ∙ has-put-other m TLIP false (bitOf CICR k) (lit< tt) h (inr d)
-
-  -- and so does CPL,
-  pub entered-CPL : CPL (arbitration m cs .image) ≡ CPL m
-  entered-CPL = ap (λ (x : ℕ). x % 8) at-CICR ∙ low-put m TLIP false CICR (lit< tt) (inr (lit≤ tt))
-
-  -- and every byte but CICR and the mark
-  pub entered-byte : (j : ℕ) → j ≢ CICR → j ≢ MARK → at (arbitration m cs .image) j ≡ at m j
-  unfolding enteredTop
-  entered-byte j c k = rw entered (getD-set-other (put m TLIP false) MARK j 1 0 k ∙ at-put-other m TLIP false j c)
+  entered-length = rw entered (length-set (put m TLIP false) MARK 1 ∙ put-length m TLIP false ∙ long)
 
 -- ---- its return
 

@@ -169,7 +169,7 @@ module _ (m : Image) (cs : List Channel) (k : ℕ) (c : Channel) (s : ℕ) (is :
 
   from-moved : (j : ℕ) → j ≢ pairOf m c → j ≢ pairOf m c + 1 → at (transferred m c) j ≡ at moved j
   unfolding transferred
-  from-moved = advanced-other moved (pairOf m c) (addressOf m c) (counterOf m c)
+  from-moved = advanced-other moved (pairOf m c) _ _
 
   -- Rn becomes the address plus one, whatever the move hit,
   pub transfer-address : at (served m c s .image) (pairOf m c) ≡ addressOf m c + 1
@@ -186,7 +186,7 @@ module _ (m : Image) (cs : List Channel) (k : ℕ) (c : Channel) (s : ℕ) (is :
   transfer-counter h =
       let e : at (served m c s .image) (pairOf m c + 1) ≡ (counterOf m c + 255) % 256 =
       from-transferred (pairOf m c + 1) (λ e. omega (arith, idcr-page, next-register))
-      ∙ advanced-counter moved (pairOf m c) (addressOf m c) (counterOf m c) (inside (pairOf m c + 1) (omega (arith, next-register))) in
+      ∙ advanced-counter moved (pairOf m c) _ (counterOf m c) (inside (pairOf m c + 1) (omega (arith, next-register))) in
       (λ z. omega arith, λ p. omega arith)
 
   -- direction 0: Ra takes the data register's byte, where it is neither Rn nor R(n+1),
@@ -227,7 +227,7 @@ module _ (m : Image) (cs : List Channel) (k : ℕ) (c : Channel) (s : ℕ) (is :
 
   idcr-inside : idcrByte c < length (transferred m c)
   unfolding transferred
-  idcr-inside = rw (advanced-length moved (pairOf m c) (addressOf m c) (counterOf m c)) (inside (idcrByte c) (omega (arith, idcr-page)))
+  idcr-inside = rw advanced-length (inside (idcrByte c) (omega (arith, idcr-page)))
 
   -- IP is set afterwards exactly at the end of a block with IM set,
   pub transfer-IP : counterOf m c < 256 → has (served m c s .image) (IP c) ≡ (eqb (counterOf m c) 1 && has m (IM c))

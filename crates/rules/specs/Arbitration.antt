@@ -27,9 +27,13 @@ pushed m = cond (leb (CPL m) 6) (put m (HL (CPL m)) true) m
 unfoldable pub nested : Image → ℕ → Image
 nested m l = putCPL (pushed m) l
 
--- then the winner's EIPR or IP bit and IEN are cleared
+-- the winner's EIPR or IP bit is cleared
+unfoldable pub cleared : Image → List Channel → ℕ → Image
+cleared m cs s = put m (pendingBit cs s) false
+
+-- so it is after the mode's part, and IEN too
 unfoldable pub acknowledged : Image → List Channel → ℕ → ℕ → Image
-acknowledged m cs s l = put (put (cond (has m IAM) (nested m l) m) (pendingBit cs s) false) IEN false
+acknowledged m cs s l = put (cleared (cond (has m IAM) (nested m l) m) cs s) IEN false
 
 -- what the winner gets
 unfoldable pub granted : Image → List Channel → Winner → Change
