@@ -7,21 +7,21 @@ use mathlib.Core.Bool.{Bool, true, false, cond, not, _&&_, and-true}
 use Prim.Native.Nat.{ℕ, _+_, _/_, _%_, _≤_, _<_}
 use native.Mathlib.Omega.{arith}
 use native.Mathlib.Decide.{ℕ-discrete}
-use lib.Dec.{lit<, eqb, ltb, leb}
+use lib.Dec.{lit<, eqb, ltb}
 use lib.ListN.{length, set, length-set}
 use lib.Seq.{getD-set-same, getD-set-other}
-use borrow.Author.Tests.{lt-ltb, le-ltb, leb-true, eqb-true, eqb-false, eq-eqb, ne-eqb}
+use borrow.Author.Tests.{lt-ltb, le-ltb, eqb-true, eqb-false, eq-eqb, ne-eqb}
 use Rattle.rules.specs.declared.Channel.{Channel}
 use Rattle.rules.specs.declared.Answer.the-variants as answer
 use Rattle.rules.specs.declared.Refusal.the-variants as refusal
 use Rattle.rules.specs.Image.{Image, imageLength, at, has, put, bitOf}
-use Rattle.rules.specs.Channels.{recordAt, idcrByte, dcprByte, dataByte, between, recordOk, listOk}
+use Rattle.rules.specs.Channels.{recordAt, idcrByte, dcprByte, dataByte, listOk}
 use Rattle.rules.specs.Outcomes.{refuse}
 use Rattle.rules.specs.Sources.{IP, DM, IM}
 use Rattle.rules.specs.Transfer.{pairOf, movedByte, lessOne, advanced, transferred, settled, served, transferOf}
-use Rattle.rules.proofs.Bools.{cond-elim, cond-and, and-r, or-r}
+use Rattle.rules.proofs.Bools.{cond-elim, cond-and, or-r}
 use Rattle.rules.proofs.ImageLaws.{put-length, at-put-other, has-put-same, has-put-bit, has-put-other}
-use Rattle.rules.proofs.ChannelLaws.{OnPage, record-ok, register-range, registers-apart}
+use Rattle.rules.proofs.ChannelLaws.{OnPage, record-in-range, record-ok, register-range, registers-apart}
 
 -- ---- when it is refused
 
@@ -104,11 +104,6 @@ module _ (m : Image) (n a count : ℕ) where
   unfolding advanced
   advanced-other j d e = getD-set-other (set m n (a + 1)) (n + 1) j (lessOne count) 0 e ∙ getD-set-other m n j (a + 1) 0 d
 
-direction-le : (c : Channel) → recordOk c ≡ true → c .direction ≤ 1
-direction-le c e =
-    leb-true (c .direction) 1 (and-r (between 1 63 (c .page) && between 240 255 (c .idcr) && between 240 255 (c .ivr) && between 240 255 (c .dcpr)
-    && between 240 255 (c .dapr) && between 240 255 (c .io)) (leb (c .direction) 1) e)
-
 module _ (m : Image) (c : Channel) (a : ℕ) where
   moved-length : length (movedByte m c a) ≡ length m
   unfolding movedByte
@@ -151,6 +146,9 @@ module _ (m : Image) (cs : List Channel) (k : ℕ) (c : Channel) (s : ℕ) (is :
 
   idcr-not-data : idcrByte c ≢ dataByte c
   idcr-not-data = rw is (registers-apart cs ok k 0 k 4 there there (lit< tt) (lit< tt) (inr (λ e. omega arith)))
+
+  one-way : c .direction ≤ 1
+  one-way = record-in-range c (rw is (record-ok cs ok k there)) .one-way
 
   next-register : pairOf m c + 1 ≤ 223
   next-register = omega (arith, pair-even m c s)
@@ -207,7 +205,7 @@ module _ (m : Image) (cs : List Channel) (k : ℕ) (c : Channel) (s : ℕ) (is :
   pub transfer-frame : (j : ℕ) → j ≢ pairOf m c → j ≢ pairOf m c + 1 → j ≢ idcrByte c → (c .direction ≡ 0 → j ≢ addressOf m c) → (c .direction ≡ 1 → j ≢ dataByte c)
       → at (served m c s .image) j ≡ at m j
   transfer-frame j d e f x y =
-      from-transferred j f ∙ from-moved j d e ∙ moved-other m c (addressOf m c) (direction-le c (rw is (record-ok cs ok k there))) j x y
+      from-transferred j f ∙ from-moved j d e ∙ moved-other m c (addressOf m c) one-way j x y
 
   -- and so does each that is neither a register up to R223 nor on pages 1 to 63: CICR, NICR, EIPR and the mark among them
   pub transfer-named : (j : ℕ) → 223 < j → (OnPage j → ⊥) → at (served m c s .image) j ≡ at m j
@@ -223,7 +221,7 @@ module _ (m : Image) (cs : List Channel) (k : ℕ) (c : Channel) (s : ℕ) (is :
   idcr-kept : at (transferred m c) (idcrByte c) ≡ at m (idcrByte c)
   idcr-kept =
       from-moved (idcrByte c) (λ d. omega (arith, idcr-page)) (λ d. omega (arith, idcr-page, next-register))
-      ∙ moved-other m c (addressOf m c) (direction-le c (rw is (record-ok cs ok k there))) (idcrByte c) (λ e d. omega (arith, idcr-page)) (λ e. idcr-not-data)
+      ∙ moved-other m c (addressOf m c) one-way (idcrByte c) (λ e d. omega (arith, idcr-page)) (λ e. idcr-not-data)
 
   idcr-inside : idcrByte c < length (transferred m c)
   unfolding transferred
