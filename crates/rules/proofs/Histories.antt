@@ -1,7 +1,7 @@
 -- Document 01, "Runs and the wait report": laws of histories and of the events of a run and of a wait report, for every list of steps.
 -- Assumes nothing.
 use mathlib.Core.Path.{_≡_, refl, sym, ap, _∙_}
-use mathlib.Core.Bool.{Bool, true, false, false≢true, cond, not, _||_, or-assoc}
+use mathlib.Core.Bool.{and-false, Bool, true, false, false≢true, cond, not, _||_, or-assoc}
 use mathlib.Core.List.{List, [], _∷_, _++_}
 use Prim.Native.Nat.{ℕ, zero, suc, _+_, _≤_}
 use native.Mathlib.Numerals.{one-add}
@@ -13,7 +13,7 @@ use Rattle.rules.specs.declared.Step.{Step}
 use Rattle.rules.specs.declared.Answer.{Answer}
 use Rattle.rules.specs.Image.{State}
 use Rattle.rules.specs.Steps.{stepOf}
-use Rattle.rules.specs.Runs.{Event, history, stateAfter, any, one, counted, until, eventRefused, stepsDone, runEvents, lastAnswer, eventAcknowledges, acknowledgedIn, waitEvents}
+use Rattle.rules.specs.Runs.{isArbitration, madeArbitration, arbitrationsIn, Event, history, stateAfter, any, one, counted, until, eventRefused, stepsDone, runEvents, lastAnswer, eventAcknowledges, acknowledgedIn, waitEvents}
 use Rattle.rules.proofs.Refusals.{refused-same}
 
 -- ---- lists of steps and of events, cut in two
@@ -189,6 +189,34 @@ done-after q s cs (x ∷ xs) = go (eventRefused e) (q e) (refused-same s cs x) (
     go false true k ih = refl
     go false false k ih = rw one-add ih
 
+-- and the arbitrations made are those of the steps done: a refused one is none
+arbitrations-after : (q : Event → Bool) (s : State) (cs : List Channel) (xs : List Step)
+    → arbitrationsIn (until q (until eventRefused (history s cs xs)))
+    ≡ arbitrationsIn (history s cs (take (stepsDone (until q (until eventRefused (history s cs xs)))) xs))
+unfolding until counted history
+arbitrations-after q s cs [] = refl
+arbitrations-after q s cs (x ∷ xs) = go (eventRefused e) (q e) refl (arbitrations-after q t cs xs)
+  where
+    t : State
+    t = stepOf s cs x .state
+
+    e : Event
+    e = record { before = s; step = x; outcome = stepOf s cs x }
+
+    rest : List Event
+    rest = until eventRefused (history t cs xs)
+
+    no-more : eventRefused e ≡ true → one (madeArbitration e) + 0 ≡ 0
+    no-more r = rw r (ap (λ (b : Bool). one b + 0) (and-false (isArbitration x)))
+
+    go : (b c : Bool) → eventRefused e ≡ b → arbitrationsIn (until q rest) ≡ arbitrationsIn (history t cs (take (stepsDone (until q rest)) xs))
+        → one (madeArbitration e) + arbitrationsIn (cond c [] (until q (cond b [] rest)))
+        ≡ arbitrationsIn (history s cs (take (one (not b) + stepsDone (cond c [] (until q (cond b [] rest)))) (x ∷ xs)))
+    go true true r ih = no-more r
+    go true false r ih = no-more r
+    go false true r ih = refl
+    go false false r ih = rw one-add (ap (λ (n : ℕ). one (madeArbitration e) + n) ih)
+
 -- a run leaves what the steps done leave
 pub run-after : (s : State) (cs : List Channel) (xs : List Step) → After s cs xs (runEvents s cs xs)
 run-after s cs xs = simp until-none at (done-after (λ e. false) s cs xs)
@@ -196,3 +224,8 @@ run-after s cs xs = simp until-none at (done-after (λ e. false) s cs xs)
 -- and so does a wait report
 pub wait-after : (s : State) (cs : List Channel) (source : ℕ) (xs : List Step) → After s cs xs (waitEvents s cs source xs)
 wait-after s cs source xs = done-after (eventAcknowledges source) s cs xs
+
+-- and counts their arbitrations
+pub wait-arbitrations : (s : State) (cs : List Channel) (source : ℕ) (xs : List Step)
+    → arbitrationsIn (waitEvents s cs source xs) ≡ arbitrationsIn (history s cs (take (stepsDone (waitEvents s cs source xs)) xs))
+wait-arbitrations s cs source xs = arbitrations-after (eventAcknowledges source) s cs xs

@@ -1,13 +1,16 @@
 -- Document 01, "Runs and the wait report": a word of a list of steps and its fields; each step is said by a word. Assumes nothing.
-use mathlib.Core.Path.{_≡_, refl}
-use Prim.Native.Nat.{ℕ, _+_, _*_, _^_, _<_}
+use mathlib.Core.Path.{_≡_, refl, ap}
+use mathlib.Core.List.{List, [], _∷_}
+use Prim.Native.Nat.{ℕ, zero, suc, _+_, _*_, _^_, _<_}
 use native.Mathlib.Omega.{arith}
+use native.Mathlib.Nat.{not-suc-le-zero, le-of-suc-le-suc}
+use lib.ListN.{length, getD}
 use borrow.Author.Tests.{ne-eqb}
 use Rattle.rules.specs.declared.Trigger.{Trigger}
 use Rattle.rules.specs.declared.Trigger.the-variants as trigger
 use Rattle.rules.specs.declared.Step.{Step}
 use Rattle.rules.specs.declared.Step.the-variants as step
-use Rattle.rules.specs.Steps.{kindField, triggerField, firstField, secondField, triggerBy, stepBy, decodeOf}
+use Rattle.rules.specs.Steps.{kindField, triggerField, firstField, secondField, triggerBy, stepBy, decodeOf, stepsOf}
 
 -- the word of a kind, a trigger kind, a first and a second field
 abbrev pub word : ℕ → ℕ → ℕ → ℕ → ℕ
@@ -100,3 +103,18 @@ unknown-kind k t f v h =
 pub unknown-trigger : (t f v : ℕ) → 3 < t → triggerBy t f v ≡ trigger.Unknown
 unfolding triggerBy
 unknown-trigger t f v h = rw (ne-eqb t 0 (omega arith), ne-eqb t 1 (omega arith), ne-eqb t 2 (omega arith), ne-eqb t 3 (omega arith))
+
+-- ---- a list of words
+
+-- as many steps as words
+pub steps-length : (ws : List ℕ) → length (stepsOf ws) ≡ length ws
+unfolding stepsOf
+steps-length [] = refl
+steps-length (w ∷ ws) = ap suc (steps-length ws)
+
+-- step i is that of word i
+pub steps-at : (ws : List ℕ) (i : ℕ) → i < length ws → getD (stepsOf ws) i step.Unknown ≡ decodeOf (getD ws i 0)
+unfolding stepsOf
+steps-at [] i h = absurd (not-suc-le-zero h)
+steps-at (w ∷ ws) zero h = refl
+steps-at (w ∷ ws) (suc i) h = steps-at ws i (le-of-suc-le-suc h)

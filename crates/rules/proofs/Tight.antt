@@ -2,16 +2,17 @@
 -- a masked source above ours and one that ours outranks, both pending and triggered, a trigger of ours, and a refused one. Assumes nothing.
 use mathlib.Core.Path.{_≡_, refl, sym, ap, _∙_}
 use mathlib.Core.Bool.{Bool, true, false, not, _&&_, _||_}
-use mathlib.Core.List.{List, [], _∷_}
-use Prim.Native.Nat.{ℕ}
+use mathlib.Core.List.{List, [], _∷_, _++_}
+use Prim.Native.Nat.{ℕ, _+_}
 use lib.Dec.{lit<}
-use lib.ListN.{take}
+use lib.ListN.{take, drop}
 use Rattle.bits.specs.Bits.{digit, bit, putBit}
 use Rattle.bits.proofs.Tests.{passes, fails}
 use Rattle.rules.specs.declared.Channel.{Channel}
 use Rattle.rules.specs.declared.Step.{Step}
 use Rattle.rules.specs.declared.Step.the-variants as step
 use Rattle.rules.specs.declared.Trigger.the-variants as trigger
+use Rattle.rules.specs.declared.Waited.the-variants as waited
 use Rattle.rules.specs.Image.{Image, state, has, IEN, pageByte, put, CICR, EIPR, EIMR, EIPLR}
 use Rattle.rules.specs.Channels.{idcrByte, ivrByte, dcprByte, daprByte, dataByte, recordsOk, member, distinct, allBytes, listOk}
 use Rattle.rules.specs.Sources.{sources, pendingBit, pending, unmasked, dmaEnabled, externalLevel, level}
@@ -20,13 +21,14 @@ use Rattle.rules.specs.Requests.{requestOf, eligible, isAt, wonBy, candi
 use Rattle.rules.specs.Arbitration.{vectorOf, cleared, acknowledged, granted, topLevel, arbitration, arbitrateOf}
 use Rattle.rules.specs.Return.{returned, returnOf}
 use Rattle.rules.specs.Steps.{lentVerdict, actOf, stepOf}
-use Rattle.rules.specs.Runs.{Event, any, counted, history, acknowledgedIn, arbitrationsIn, isArbitration}
+use Rattle.rules.specs.Runs.{until, lastAnswer, stateAfter, waitEvents, waitReport, waitVerdict, waitOf, Event, any, counted, history, acknowledgedIn, arbitrationsIn, isArbitration}
 use Rattle.rules.specs.Waiting.{outranks, rival, count, pendingOf, H, E, Start, isCall, Calls}
 use Rattle.rules.specs.Examples.{image, channel, _↤_}
 use Rattle.rules.proofs.Bools.{and-l, and-r}
 
 -- CPL is 7, IEN 0 and TLIP 1. INTA0, the record and INTB0 are at level 0, INTA1 and INTB1 at level 1; all five are pending, and all but INTB0
--- unmasked. Byte 240, which no rule reads, has what the record's IDCR has
+-- unmasked. Byte 240, which no rule reads, has what the record's IDCR has: where a record isn't there the definitions read that byte, so that a
+-- refused request of it would show if it counted
 unfoldable pub start : Image
 unfolding image idcrByte
 start =
@@ -93,9 +95,19 @@ calls-by (e ∷ es) h =
       calls-by es (and-r (callTest e) (callsTest es) h),
     )
 
--- a start and a list of calls as demand 3 asks, with H = 2 and E = 2: ours is not acknowledged among the first four arbitrations, and by the fifth
+-- a start and a list of calls as demand 3 asks, with H = 2 and E = 2: ours is not acknowledged among the first four arbitrations, and is by the fifth
 pub tight : Start start channels ours × Calls events × (H start channels ours ≡ 2) × (E start channels ours events ≡ 2)
     × (arbitrationsIn (take 15 events) ≡ 4) × (acknowledgedIn ours (take 15 events) ≡ false)
     × (arbitrationsIn events ≡ 5) × (acknowledgedIn ours events ≡ true)
 unfolding start image digit bit putBit pageByte put idcrByte ivrByte dcprByte daprByte dataByte recordsOk member distinct allBytes listOk sources pendingBit pending unmasked dmaEnabled externalLevel level triggerVerdict selects selectsTop sourceEffect raiseSource topEffect raiseTop fire triggerOf requestOf eligible isAt wonBy candidate first winnerOfKind winnerAtLevel winnerOf vectorOf cleared acknowledged granted topLevel arbitration arbitrateOf returned returnOf lentVerdict actOf stepOf history outranks rival count pendingOf any counted
 tight = (starts, calls-by events refl, refl, refl, refl, refl, refl, refl)
+
+-- the same as a wait report, without the refused request, which would end it: acknowledged with H + E + 1 arbitrations
+abbrev pub accepted : List Step
+accepted = take 6 steps ++ drop 7 steps
+
+pub wait-tight : Calls (waitEvents (state start) channels ours accepted)
+    × (H start channels ours + E start channels ours (waitEvents (state start) channels ours accepted) ≡ 4)
+    × (waitOf (state start) channels ours accepted .answer ≡ waited.Acknowledged 5)
+unfolding start image digit bit putBit pageByte put idcrByte ivrByte dcprByte daprByte dataByte recordsOk member distinct allBytes listOk sources pendingBit pending unmasked dmaEnabled externalLevel level triggerVerdict selects selectsTop sourceEffect raiseSource topEffect raiseTop fire triggerOf requestOf eligible isAt wonBy candidate first winnerOfKind winnerAtLevel winnerOf vectorOf cleared acknowledged granted topLevel arbitration arbitrateOf returned returnOf lentVerdict actOf stepOf history outranks rival count pendingOf any counted until lastAnswer stateAfter waitReport waitVerdict waitOf
+wait-tight = (calls-by (waitEvents (state start) channels ours accepted) refl, refl, refl)

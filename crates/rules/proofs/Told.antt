@@ -1,6 +1,7 @@
 -- No two answers are told alike: each telling of specs/Answers has a way back, so it is injective. Assumes nothing.
 use mathlib.Core.Path.{_≡_, refl, sym, ap, ap₂, _∙_}
 use mathlib.Core.Bool.{Bool, true, false, cond}
+use mathlib.Core.List.{[], _∷_, map}
 use Prim.Native.Nat.{ℕ}
 use lib.Dec.{eqb}
 use Rattle.rules.specs.declared.Refusal.{Refusal}
@@ -40,6 +41,11 @@ refusal-back refusal.Number = refl
 refusal-back refusal.Memory = refl
 refusal-back refusal.Pointer = refl
 refusal-back refusal.Kind = refl
+
+-- document 01's numbers, 1 to 7 in its order
+pub refusal-numbers : map refusalNumber
+    (refusal.Length ∷ refusal.List ∷ refusal.Register ∷ refusal.Number ∷ refusal.Memory ∷ refusal.Pointer ∷ refusal.Kind ∷ []) ≡ (1 ∷ 2 ∷ 3 ∷ 4 ∷ 5 ∷ 6 ∷ 7 ∷ [])
+refusal-numbers = refl
 
 -- no two refusals have one number
 pub refusal-number-injective : (a b : Refusal) → refusalNumber a ≡ refusalNumber b → a ≡ b
@@ -100,6 +106,10 @@ answer-back (answer.Transferred s e) = ap (answer.Transferred s) (one-back e)
 answer-back answer.Returned = refl
 answer-back answer.Reset = refl
 answer-back (answer.Refused r) = ap answer.Refused (refusal-back r)
+
+-- the values: the top level's vector is 04h; a refusal's is its number
+pub told-values : (r : Refusal) → (told answer.TopLevel .first ≡ 0x04) × (told (answer.Refused r) .first ≡ refusalNumber r)
+told-values r = (refl, refl)
 
 -- no two answers are told alike
 pub told-injective : (a b : Answer) → told a ≡ told b → a ≡ b

@@ -23,7 +23,8 @@ use Rattle.rules.specs.Outcomes.{verdictOf}
 use Rattle.rules.specs.Sources.{sources}
 use Rattle.rules.specs.Steps.{lentVerdict}
 use Rattle.rules.specs.Runs.{Event, history, stateAfter, any, until, stepsDone, runEvents, lastAnswer, ranIf, runReport, runOf, acknowledges, acknowledgedIn, arbitrationsIn, waitEvents, waitedIf, waitOutcome, waitReport, sourceIf, waitVerdict, waitIf, waitOf, eventAcknowledges}
-use Rattle.rules.proofs.Histories.{until-whole, wait-ends, wait-after}
+use Rattle.rules.proofs.Histories.{wait-arbitrations, until-whole, wait-ends, wait-after}
+use Rattle.rules.proofs.Bools.{impossible}
 
 -- ---- refused before any step: 1 and 2 for what is lent, then the source number
 
@@ -105,21 +106,39 @@ indexOr n (waited.RefusedAt r i k) = i
 indexOr n (waited.Ended k) = n
 indexOr n (waited.Acknowledged k) = n
 
--- refused at a step, it leaves what exactly the steps before leave
+-- it leaves the state after the last step done
+pub wait-state : (s : State) (cs : List Channel) (source : ℕ) (xs : List Step) → waitVerdict s cs source ≡ verdict.Accepted
+    → waitOf s cs source xs .state ≡ stateAfter s (waitEvents s cs source xs)
+unfolding waitOf waitReport
+wait-state s cs source xs v = ap (λ (u : Verdict). waitIf u s cs source xs .state) v
+
+-- refused at a step, it leaves what exactly the steps before leave, and counts their arbitrations
 pub wait-leaves : (s : State) (cs : List Channel) (source : ℕ) (xs : List Step) (r : Refusal) (i k : ℕ)
-    → waitOf s cs source xs .answer ≡ waited.RefusedAt r i k → waitOf s cs source xs .state ≡ stateAfter s (history s cs (take i xs))
+    → waitOf s cs source xs .answer ≡ waited.RefusedAt r i k
+    → (waitOf s cs source xs .state ≡ stateAfter s (history s cs (take i xs))) × (k ≡ arbitrationsIn (history s cs (take i xs)))
 unfolding waitOf waitReport history stateAfter
 wait-leaves s cs source xs r i k = go (waitVerdict s cs source)
   where
-    go : (v : Verdict) → waitIf v s cs source xs .answer ≡ waited.RefusedAt r i k → waitIf v s cs source xs .state ≡ stateAfter s (history s cs (take i xs))
+    es : List Event
+    es = waitEvents s cs source xs
+
+    last : Answer
+    last = lastAnswer answer.NoStep es
+
+    go : (v : Verdict) → waitIf v s cs source xs .answer ≡ waited.RefusedAt r i k
+        → (waitIf v s cs source xs .state ≡ stateAfter s (history s cs (take i xs))) × (k ≡ arbitrationsIn (history s cs (take i xs)))
     go verdict.Accepted p =
-        let es : List Event = waitEvents s cs source xs in
-        let a : Answer = lastAnswer answer.NoStep es in
         let n : ℕ = 0 + stepsDone es in
         let e : indexOr n (waitIf verdict.Accepted s cs source xs .answer) ≡ n =
-        waited-each (indexOr n) n source n (0 + arbitrationsIn es) a refl refl (λ r. refl) (verdictOf a) in
-        wait-after s cs source xs ∙ ap (λ (n : ℕ). stateAfter s (history s cs (take n xs))) (sym (e ∙ zero-add (stepsDone es)) ∙ ap (indexOr n) p)
-    go (verdict.Refused q) p = ap (λ (n : ℕ). stateAfter s (history s cs (take n xs))) (ap (indexOr 0) p)
+        waited-each (indexOr n) n source n (0 + arbitrationsIn es) last refl refl (λ r. refl) (verdictOf last) in
+        let f : arbitrationsOf (waitIf verdict.Accepted s cs source xs .answer) ≡ 0 + arbitrationsIn es =
+        waited-each arbitrationsOf (0 + arbitrationsIn es) source n (0 + arbitrationsIn es) last refl refl (λ r. refl) (verdictOf last) in
+        let index : stepsDone es ≡ i = sym (e ∙ zero-add (stepsDone es)) ∙ ap (indexOr n) p in (
+          wait-after s cs source xs ∙ ap (λ (n : ℕ). stateAfter s (history s cs (take n xs))) index,
+          sym (ap arbitrationsOf p) ∙ f ∙ zero-add (arbitrationsIn es) ∙ wait-arbitrations s cs source xs
+              ∙ ap (λ (n : ℕ). arbitrationsIn (history s cs (take n xs))) index,
+        )
+    go (verdict.Refused q) p = impossible (cc)
 
 -- ---- which end it is
 

@@ -122,13 +122,15 @@ Demand3 =
     → (n : ℕ) → InTime s (H m cs s + E m cs s (history (state m) cs xs)) (take n (history (state m) cs xs))
     × Kept m cs s (take n (history (state m) cs xs))
 
--- of a run, where the steps that it does are such a list: the same of these steps and of the image that it leaves
+-- of a run, where the steps that it does are such a list: the same of the first n of these steps, for each n; and where ours is not
+-- acknowledged among them all, it is pending in the image that the run leaves
 abbrev pub RunDemand3 : Type 0
 RunDemand3 =
     (m : Image) (cs : List Channel) (s : ℕ) → Start m cs s
     → (xs : List Step) → Calls (runEvents (state m) cs xs)
-    → InTime s (H m cs s + E m cs s (runEvents (state m) cs xs)) (runEvents (state m) cs xs)
-    × (acknowledgedIn s (runEvents (state m) cs xs) ≡ false → pending (runOf (state m) cs xs .state .image) cs s ≡ true)
+    → ((n : ℕ) → InTime s (H m cs s + E m cs s (runEvents (state m) cs xs)) (take n (runEvents (state m) cs xs))
+      × Kept m cs s (take n (runEvents (state m) cs xs)))
+      × (acknowledgedIn s (runEvents (state m) cs xs) ≡ false → pending (runOf (state m) cs xs .state .image) cs s ≡ true)
 
 -- what a wait report may answer under a bound of H + E: acknowledged with at most one arbitration more; ended or refused with at most so
 -- many, and ours pending in the image that it leaves; never refused before a step
