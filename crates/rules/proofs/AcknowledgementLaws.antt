@@ -70,17 +70,17 @@ module _ (m : Image) (l : ℕ) where
 -- ---- the pending bit of source s is cleared
 
 module _ (m : Image) (cs : List Channel) (s : ℕ) where
-  cleared-length : length (cleared m cs s) ≡ length m
+  pub cleared-length : length (cleared m cs s) ≡ length m
   unfolding cleared put
   cleared-length = length-set m (pendingBit cs s .byte) _
 
   -- every byte stays but that bit's
-  cleared-byte : (j : ℕ) → j ≢ pendingBit cs s .byte → at (cleared m cs s) j ≡ at m j
+  pub cleared-byte : (j : ℕ) → j ≢ pendingBit cs s .byte → at (cleared m cs s) j ≡ at m j
   unfolding cleared put
   cleared-byte j d = getD-set-other m (pendingBit cs s .byte) j _ 0 d
 
   -- and every other bit of it
-  cleared-bit : pendingBit cs s .number < 8 → (c : Bit) → c .number < 8 → Apart c (pendingBit cs s) → has (cleared m cs s) c ≡ has m c
+  pub cleared-bit : pendingBit cs s .number < 8 → (c : Bit) → c .number < 8 → Apart c (pendingBit cs s) → has (cleared m cs s) c ≡ has m c
   unfolding cleared
   cleared-bit small c h p = has-put-other m (pendingBit cs s) false c small h p
 

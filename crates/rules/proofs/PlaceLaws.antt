@@ -46,8 +46,6 @@ pub pairs-apart : (p r q t : ℕ) → (240 ≤ r) × (r ≤ 255) → (240 ≤ t)
 unfolding pageByte
 pairs-apart p r q t hr ht e = (omega arith, omega arith)
 
--- ---- a test taken apart
-
 -- ---- R0 to R239
 
 -- all bits of the table's registers exist, but PPR's two low ones

@@ -38,9 +38,10 @@ pub run-demand3 : RunDemand3
 unfolding runOf runReport
 run-demand3 m cs s a xs c =
     let p = run-prefix (state m) cs xs in
-    let es = runEvents (state m) cs xs in
-    (of-history m cs s a es (take (p .0) xs) (p .2) c,
-    rw (lent-accepted (state m) cs (a .calm .long) (a .calm .listed)) (whole m cs s a es (take (p .0) xs) (p .2) c .1))
+    let es = runEvents (state m) cs xs in (
+      of-history m cs s a es (take (p .0) xs) (p .2) c,
+      rw (lent-accepted (state m) cs (a .calm .long) (a .calm .listed)) (whole m cs s a es (take (p .0) xs) (p .2) c .1),
+    )
 
 -- ---- the wait report
 

@@ -22,7 +22,8 @@ use Rattle.rules.proofs.Bools.{impossible, and-l, and-r, or-cases, not-
 
 -- ---- the first that is somebody
 
-abbrev Somebody : Winner → Type 0
+-- the winner is somebody
+abbrev pub Somebody : Winner → Type 0
 Somebody w = w ≡ winner.Nobody → ⊥
 
 dma-somebody : (s : ℕ) → Somebody (winner.Dma s)
@@ -79,7 +80,7 @@ abbrev pub Precedes : ℕ → ℕ → ℕ → ℕ → ℕ → ℕ → Type 0
 Precedes l k p l′ k′ p′ = (l < l′) ⊎ ((l ≡ l′) × ((k < k′) ⊎ ((k ≡ k′) × (p < p′))))
 
 -- for DMA if that is enabled, else, unmasked and with interrupts enabled, for an interrupt
-abbrev Kinds : Image → List Channel → ℕ → ℕ → Type 0
+abbrev pub Kinds : Image → List Channel → ℕ → ℕ → Type 0
 Kinds m cs k p =
     ((k ≡ 0) × (dmaEnabled m cs p ≡ true)) ⊎ ((k ≡ 1) × (dmaEnabled m cs p ≡ false) × (unmasked m cs p ≡ true) × (has m IEN ≡ true))
 

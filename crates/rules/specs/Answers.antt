@@ -1,4 +1,5 @@
--- Document 01's number and values for each case of an answer. No two answers are told alike (proofs/Told).
+-- A number for each case of an answer, and its values: document 01's number for a refusal, ours for the other cases. Two different answers have
+-- different numbers or values (proofs/Told).
 -- Assumes nothing.
 use Prim.Native.Nat.{ℕ}
 use Rattle.rules.specs.declared.Refusal.{Refusal}
@@ -30,6 +31,7 @@ abbrev pub toldVerdict : Verdict → ℕ
 toldVerdict verdict.Accepted = 0
 toldVerdict (verdict.Refused r) = refusalNumber r
 
+-- 0 not selected, 1 raised, 2 merged
 abbrev pub effectNumber : Effect → ℕ
 effectNumber effect.NotSelected = 0
 effectNumber effect.Raised = 1
@@ -67,6 +69,7 @@ pub record ToldRun : Type 0 where
   pub steps : ℕ
   pub last : Told
 
+-- the values of a run's answer
 abbrev pub toldRun : Ran → ToldRun
 toldRun (ran.Refused r) = record { number = 0; refusal = refusalNumber r; steps = 0; last = told answer.NoStep }
 toldRun (ran.RefusedAt r i) = record { number = 1; refusal = refusalNumber r; steps = i; last = told answer.NoStep }

@@ -31,7 +31,7 @@ nested m l = putCPL (pushed m) l
 unfoldable pub cleared : Image → List Channel → ℕ → Image
 cleared m cs s = put m (pendingBit cs s) false
 
--- so it is after the mode's part, and IEN too
+-- in nested mode `nested` comes first; then the winner's bit and IEN are cleared
 unfoldable pub acknowledged : Image → List Channel → ℕ → ℕ → Image
 acknowledged m cs s l = put (cleared (cond (has m IAM) (nested m l) m) cs s) IEN false
 

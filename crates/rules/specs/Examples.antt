@@ -23,14 +23,17 @@ pub record Stored : Type 0 where
   pub place : ℕ
   pub byte : ℕ
 
+-- `place ↤ byte`
 infix 50 _↤_
 abbrev pub _↤_ : ℕ → ℕ → Stored
 p ↤ b = record { place = p; byte = b }
 
+-- the image with these bytes stored
 abbrev pub storing : Image → List Stored → Image
 storing m [] = m
 storing m (b ∷ bs) = storing (set m (b .place) (b .byte)) bs
 
+-- a step, its answer, and the bytes that it leaves changed
 pub record Line : Type 0 where
   pub step : Step
   pub answer : Answer
@@ -39,6 +42,7 @@ pub record Line : Type 0 where
 abbrev pub line : Step → Answer → List Stored → Line
 line x a l = record { step = x; answer = a; leaves = l }
 
+-- a channel list, an image, and the steps one after another
 pub record Scenario : Type 0 where
   pub channels : List Channel
   pub start : Image
@@ -51,16 +55,18 @@ scenario cs m ls = record { channels = cs; start = m; lines = ls }
 abbrev pub does : Scenario → List Outcome
 does e = map (λ (v : Event). v .outcome) (history (state (e .start)) (e .channels) (map (λ (l : Line). l .step) (e .lines)))
 
--- what the paper says of it
+-- the paper's line for each step: its answer, and the image with the bytes that change; a byte that the paper doesn't print is as the rules leave it
 abbrev pub saysFrom : Image → List Line → List Outcome
 saysFrom m [] = []
 saysFrom m (l ∷ ls) = outcome (l .answer) (state (storing m (l .leaves))) ∷ saysFrom (storing m (l .leaves)) ls
 
+-- the same of a scenario
 abbrev pub says : Scenario → List Outcome
 says e = saysFrom (e .start) (e .lines)
 
 -- ---- the images
 
+-- a zero image
 abbrev pub zeroImage : Image
 zeroImage = replicate imageLength 0
 
@@ -79,9 +85,11 @@ imageWith bs = storing (image ((dcprByte channel ↤ 0x11) ∷ (dataByte channel
 
 -- ---- the examples
 
+-- C01: reset of a zero image
 unfoldable pub c01 : List Scenario
 c01 = scenario [] zeroImage (line step.Reset answer.Reset ((CICR ↤ 0x87) ∷ (MODER ↤ 0xe0) ∷ (EIPLR ↤ 0xff) ∷ (EIVR ↤ 0x06) ∷ []) ∷ []) ∷ []
 
+-- C02: pin 1 falling, twice
 unfoldable pub c02 : List Scenario
 unfolding image
 c02 =
@@ -90,6 +98,7 @@ c02 =
     ∷ line (step.Trigger (trigger.Pin 1 0)) (answer.Triggered effect.Merged effect.NotSelected) [] ∷ [])
     ∷ []
 
+-- C03: two external channels pending
 unfoldable pub c03 : List Scenario
 unfolding image
 c03 =
@@ -97,6 +106,7 @@ c03 =
     (line step.Arbitrate (answer.Interrupt 0 0 0x40) ((EIPR ↤ 0x02) ∷ (CICR ↤ 0x87) ∷ []) ∷ [])
     ∷ []
 
+-- C04: return after C03, then arbitrate: the image that C03 leaves is written out
 unfoldable pub c04 : List Scenario
 unfolding image
 c04 =
@@ -105,6 +115,7 @@ c04 =
     ∷ line step.Arbitrate (answer.Interrupt 1 1 0x42) ((EIPR ↤ 0x00) ∷ (CICR ↤ 0x87) ∷ []) ∷ [])
     ∷ []
 
+-- C05: a nested acknowledgement and its return
 unfoldable pub c05 : List Scenario
 unfolding image
 c05 =
@@ -113,6 +124,7 @@ c05 =
     ∷ line step.Return answer.Returned ((CICR ↤ 0x9c) ∷ (NICR ↤ 0x00) ∷ []) ∷ [])
     ∷ []
 
+-- C06: level 7 is never eligible; level 6 under CPL 7 is
 unfoldable pub c06 : List Scenario
 unfolding image
 c06 =
@@ -121,6 +133,7 @@ c06 =
     (line step.Arbitrate (answer.Interrupt 6 6 0x4c) ((EIPR ↤ 0x00) ∷ (CICR ↤ 0x87) ∷ []) ∷ [])
     ∷ []
 
+-- C07: a level equal to CPL, and one below it
 unfoldable pub c07 : List Scenario
 unfolding image
 c07 =
@@ -129,6 +142,7 @@ c07 =
     (line step.Arbitrate (answer.Interrupt 0 2 0x40) ((EIPR ↤ 0x00) ∷ (CICR ↤ 0x83) ∷ []) ∷ [])
     ∷ []
 
+-- C08: top level, the next arbitration, and the return
 unfoldable pub c08 : List Scenario
 unfolding image
 c08 =
@@ -138,6 +152,7 @@ c08 =
     ∷ line step.Return answer.Returned ((MARK ↤ 0) ∷ []) ∷ [])
     ∷ []
 
+-- C09: a DMA service that ends a block
 unfoldable pub c09 : List Scenario
 unfolding imageWith idcrByte
 c09 =
@@ -145,6 +160,7 @@ c09 =
     (line step.Arbitrate (answer.Transferred 8 true) ((20 ↤ 0x5a) ∷ (16 ↤ 21) ∷ (17 ↤ 0) ∷ (idcrByte channel ↤ 0x2a) ∷ []) ∷ [])
     ∷ []
 
+-- C10: the last address and a counter of 0; then refused with 6
 unfoldable pub c10 : List Scenario
 unfolding imageWith idcrByte
 c10 =
@@ -154,6 +170,7 @@ c10 =
     ∷ line step.Arbitrate (answer.Refused refusal.Pointer) [] ∷ [])
     ∷ []
 
+-- C11: DMA before an interrupt of the same level
 unfoldable pub c11 : List Scenario
 unfolding imageWith idcrByte
 c11 =
@@ -162,14 +179,17 @@ c11 =
     (line step.Arbitrate (answer.Transferred 8 true) ((20 ↤ 0x5a) ∷ (16 ↤ 21) ∷ (17 ↤ 0) ∷ (idcrByte channel ↤ 0x2a) ∷ []) ∷ [])
     ∷ []
 
+-- C12: a write to EIPR answers the bits lost
 unfoldable pub c12 : List Scenario
 unfolding image
 c12 = scenario [] (image ((EIPR ↤ 0x03) ∷ [])) (line (step.Write EIPR 0x01) (answer.Written (losses 0x02)) ((EIPR ↤ 0x01) ∷ []) ∷ []) ∷ []
 
+-- C13: TLNM is set-only
 unfoldable pub c13 : List Scenario
 unfolding image
 c13 = scenario [] (image ((NICR ↤ 0x80) ∷ [])) (line (step.Write NICR 0x00) (answer.Written (losses 0x00)) [] ∷ []) ∷ []
 
+-- all thirteen, in order
 unfoldable pub examples : List (List Scenario)
 unfolding c01 c02 c03 c04 c05 c06 c07 c08 c09 c10 c11 c12 c13
 examples = c01 ∷ c02 ∷ c03 ∷ c04 ∷ c05 ∷ c06 ∷ c07 ∷ c08 ∷ c09 ∷ c10 ∷ c11 ∷ c12 ∷ c13 ∷ []

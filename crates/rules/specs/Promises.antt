@@ -25,18 +25,23 @@ Does before cs x a after = (told a ≡ told (stepOf (state before) cs x .answer)
 abbrev pub Reads : Image → List Channel → ℕ → Answer → Type 0
 Reads before cs r a = Does before cs (step.Read r) a before
 
+-- a write of v to register r
 abbrev pub Writes : Image → List Channel → ℕ → ℕ → Answer → Image → Type 0
 Writes before cs r v a after = Does before cs (step.Write r v) a after
 
+-- a trigger
 abbrev pub Triggers : Image → List Channel → Trigger → Answer → Image → Type 0
 Triggers before cs t a after = Does before cs (step.Trigger t) a after
 
+-- an arbitration
 abbrev pub Arbitrates : Image → List Channel → Answer → Image → Type 0
 Arbitrates before cs a after = Does before cs step.Arbitrate a after
 
+-- a return
 abbrev pub Returns : Image → List Channel → Answer → Image → Type 0
 Returns before cs a after = Does before cs step.Return a after
 
+-- a reset
 abbrev pub Resets : Image → List Channel → Answer → Image → Type 0
 Resets before cs a after = Does before cs step.Reset a after
 
@@ -55,9 +60,10 @@ Waits before cs source words w after =
     (toldWait w ≡ toldWait (waitOf (state before) cs source (stepsOf words) .answer))
     × (after ≡ waitOf (state before) cs source (stepsOf words) .state .image)
 
--- the view of a page, and the number of a refused view
+-- the view of a page
 abbrev pub Views : Image → ℕ → List ℕ → Type 0
 Views before p part = part ≡ viewOf before p
 
+-- the number of a refused view, 0 for an accepted one
 abbrev pub ViewRefuses : Image → ℕ → Verdict → Type 0
 ViewRefuses before p v = toldVerdict v ≡ toldVerdict (viewVerdict before p)

@@ -16,7 +16,7 @@ smallest (suc n) p = cond (p 0) 0 (suc (smallest n (λ x. p (suc x))))
 unfoldable pub restoredLevel : Image → ℕ
 restoredLevel m = smallest 7 (λ x. has m (HL x))
 
--- that bit is cleared
+-- that bit is cleared; none at 7
 unfoldable pub popped : Image → Image
 popped m = cond (ltb (restoredLevel m) 7) (put m (HL (restoredLevel m)) false) m
 

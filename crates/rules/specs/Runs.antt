@@ -1,4 +1,4 @@
--- Document 01, "Runs and the wait report": the history of a list of steps, and the run and the wait report as sums over it.
+-- Document 01, "Runs and the wait report": the history of a list of steps; the run and the wait report are read off it.
 -- Assumes nothing.
 use mathlib.Core.Bool.{Bool, true, false, cond, not, _&&_, _||_}
 use mathlib.Core.List.{List, [], _∷_}
@@ -141,6 +141,7 @@ isArbitration step.Unknown = false
 abbrev pub madeArbitration : Event → Bool
 madeArbitration e = isArbitration (e .step) && not (eventRefused e)
 
+-- how many there are among the events
 abbrev pub arbitrationsIn : List Event → ℕ
 arbitrationsIn es = counted madeArbitration es
 

@@ -1,4 +1,4 @@
--- Document 01, "Arbitration" and "Runs and the wait report": the sources, and what each has pending, unmasked and at which level.
+-- Document 01, "The image", "Arbitration" and "Runs and the wait report": the sources, and what each has pending, unmasked and at which level.
 -- Sources 0 to 7 are the external channels INTA0, INTA1, INTB0 .. INTD1; source 8 + k is record k.
 -- Assumes nothing.
 use mathlib.Core.Bool.{Bool, false, cond}

@@ -38,6 +38,7 @@ count (suc n) p = one (p n) + count n p
 unfoldable pub pendingOf : Image → List Channel → (ℕ → Bool) → ℕ
 pendingOf m cs among = count (sources cs) (λ k. pending m cs k && among k)
 
+-- H: of the unmasked sources outranking ours
 abbrev pub H : Image → List Channel → ℕ → ℕ
 H m cs s = pendingOf m cs (rival m cs s)
 
@@ -53,6 +54,7 @@ selectedBy m step.Return = none
 selectedBy m step.Reset = none
 selectedBy m step.Unknown = none
 
+-- the selected source, if there is one, is of the set
 abbrev pub within : (ℕ → Bool) → Option ℕ → Bool
 within among none = false
 within among (some k) = among k
@@ -61,6 +63,7 @@ within among (some k) = among k
 abbrev pub triggers : (ℕ → Bool) → Event → Bool
 triggers among e = not (eventRefused e) && within among (selectedBy (e .before .image) (e .step))
 
+-- how many there are among the events
 abbrev pub triggersOf : (ℕ → Bool) → List Event → ℕ
 triggersOf among es = counted (triggers among) es
 
@@ -129,8 +132,8 @@ RunDemand3 =
     (m : Image) (cs : List Channel) (s : ℕ) → Start m cs s
     → (xs : List Step) → Calls (runEvents (state m) cs xs)
     → ((n : ℕ) → InTime s (H m cs s + E m cs s (runEvents (state m) cs xs)) (take n (runEvents (state m) cs xs))
-      × Kept m cs s (take n (runEvents (state m) cs xs)))
-      × (acknowledgedIn s (runEvents (state m) cs xs) ≡ false → pending (runOf (state m) cs xs .state .image) cs s ≡ true)
+    × Kept m cs s (take n (runEvents (state m) cs xs)))
+    × (acknowledgedIn s (runEvents (state m) cs xs) ≡ false → pending (runOf (state m) cs xs .state .image) cs s ≡ true)
 
 -- what a wait report may answer under a bound of H + E: acknowledged with at most one arbitration more; ended or refused with at most so
 -- many, and ours pending in the image that it leaves; never refused before a step

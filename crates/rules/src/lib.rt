@@ -1,6 +1,6 @@
 // The types that every crate of the model shares.
 
-// A channel record: its page, the registers there of its IDCR, IVR, DCPR, DAPR and data, and the direction of its transfers
+// A channel record: its page, the registers there of its IDCR, IVR, DCPR, DAPR and data (`io`), and the direction of its transfers
 // (0: peripheral to register file, 1: the reverse).
 pub struct Channel {
     pub page: u8,
@@ -55,7 +55,8 @@ pub enum Effect {
     Merged,
 }
 
-// Directions of an edge: 0 falling, 1 rising.
+// What can set a pending bit from outside: a pin edge, the watchdog's end of count, an NMI edge, a channel request, or a kind that is none of
+// these. Directions of an edge: 0 falling, 1 rising.
 pub enum Trigger {
     Pin { pin: u32, direction: u8 },
     Watchdog,
