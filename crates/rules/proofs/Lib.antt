@@ -20,10 +20,12 @@ pub mod TopLevelLaws
 pub mod RestoredLaws
 pub mod ReturnLaws
 pub mod Refusals
+pub mod ExactlyWhen
 pub mod Told
 pub mod StepWords
 pub mod Histories
 pub mod RunLaws
+pub mod AcknowledgedBy
 pub mod WaitLaws
 pub mod Counting
 pub mod Views

@@ -160,6 +160,20 @@ act-own s cs step.Unknown = (λ e. refl, refl)
 
 -- ---- a step
 
+-- an answer that counts as a refusal is one, with its number
+pub refused-is : (a : Answer) → isRefused a ≡ true → (r : Refusal) × (a ≡ answer.Refused r)
+refused-is answer.NoStep e = absurd (false≢true e)
+refused-is (answer.Byte b) e = absurd (false≢true e)
+refused-is (answer.Written l) e = absurd (false≢true e)
+refused-is (answer.Triggered f g) e = absurd (false≢true e)
+refused-is answer.Nothing e = absurd (false≢true e)
+refused-is answer.TopLevel e = absurd (false≢true e)
+refused-is (answer.Interrupt k l v) e = absurd (false≢true e)
+refused-is (answer.Transferred k t) e = absurd (false≢true e)
+refused-is answer.Returned e = absurd (false≢true e)
+refused-is answer.Reset e = absurd (false≢true e)
+refused-is (answer.Refused r) e = (r, refl)
+
 -- a refused step changes nothing, whatever the image, the list and the step are
 pub refused-same : (s : State) (cs : List Channel) (x : Step) → isRefused (stepOf s cs x .answer) ≡ true → stepOf s cs x .state ≡ s
 unfolding stepOf

@@ -10,15 +10,28 @@ use lib.Dec.{lit<, lit≤, eqb, ltb}
 use lib.ListN.{length}
 use borrow.Author.Tests.{ltb-true, ltb-false, eq-eqb, ne-eqb}
 use Rattle.rules.specs.declared.Channel.{Channel}
+use Rattle.rules.specs.declared.Answer.the-variants as answer
 use Rattle.rules.specs.Image.{Image, imageLength, at, has, put, inService, Bit, bitOf, CPL, HL, IAM, IEN, TLNM, CICR, NICR}
 use Rattle.rules.specs.Channels.{listOk}
 use Rattle.rules.specs.Sources.{sources}
 use Rattle.rules.specs.Arbitration.{acknowledged}
-use Rattle.rules.specs.Return.{restoredLevel, popped, unnested, returned}
+use Rattle.rules.specs.Return.{restoredLevel, popped, unnested, returned, returnOf}
 use Rattle.rules.proofs.Bools.{cond-elim, cond-and, or-r, true-or}
 use Rattle.rules.proofs.ImageLaws.{Apart, put-length, at-put-other, has-put-same, has-put-bit, has-put-other, low-put, putCPL-length, at-putCPL-other, CPL-putCPL, has-putCPL}
 use Rattle.rules.proofs.AcknowledgementLaws.{acknowledged-length, acknowledged-mark, acknowledged-CICR, acknowledged-nested-HL}
 use Rattle.rules.proofs.RestoredLaws.{restored-le, restored-is, restored-none}
+
+-- ---- what the step answers and leaves
+
+-- a return answers nothing more,
+pub return-answer : (m : Image) → returnOf m .answer ≡ answer.Returned
+unfolding returnOf
+return-answer m = refl
+
+-- and leaves what is returned to
+pub return-image : (m : Image) → returnOf m .image ≡ returned m
+unfolding returnOf
+return-image m = refl
 
 -- ---- the return, where the top level is not in service
 

@@ -20,7 +20,8 @@ use Rattle.rules.specs.Waiting.{H, E, Start, Calls, InTime, Kept, RunDem
 use Rattle.rules.proofs.Bools.{not-both}
 use Rattle.rules.proofs.Refusals.{lent-accepted}
 use Rattle.rules.proofs.Histories.{run-prefix, wait-prefix}
-use Rattle.rules.proofs.WaitLaws.{wait-accepted, acknowledges-accepted, last-tells}
+use Rattle.rules.proofs.AcknowledgedBy.{acknowledges-accepted}
+use Rattle.rules.proofs.WaitLaws.{wait-accepted, last-tells}
 use Rattle.rules.proofs.Demand3.{demand3}
 
 module _ (m : Image) (cs : List Channel) (s : ℕ) (a : Start m cs s) where

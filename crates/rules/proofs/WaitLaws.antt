@@ -1,11 +1,11 @@
 -- Document 01, "Runs and the wait report": what a wait report answers and leaves. Assumes nothing.
 use mathlib.Core.Path.{_≡_, refl, sym, ap, _∙_}
-use mathlib.Core.Bool.{Bool, true, false, false≢true, cond, _||_}
+use mathlib.Core.Bool.{Bool, true, false, cond, _||_}
 use mathlib.Core.List.{List, [], _∷_, _++_}
 use Prim.Native.Nat.{ℕ, _+_, _≤_, _<_}
 use native.Mathlib.Nat.{zero-add}
 use lib.ListN.{take}
-use borrow.Author.Tests.{eqb-true, eq-eqb, lt-ltb, le-ltb}
+use borrow.Author.Tests.{lt-ltb, le-ltb}
 use Rattle.rules.specs.declared.Channel.{Channel}
 use Rattle.rules.specs.declared.Step.{Step}
 use Rattle.rules.specs.declared.Answer.{Answer}
@@ -25,6 +25,7 @@ use Rattle.rules.specs.Steps.{lentVerdict}
 use Rattle.rules.specs.Runs.{Event, history, stateAfter, any, until, stepsDone, runEvents, lastAnswer, ranIf, runReport, runOf, acknowledges, acknowledgedIn, arbitrationsIn, waitEvents, waitedIf, waitOutcome, waitReport, sourceIf, waitVerdict, waitIf, waitOf, eventAcknowledges}
 use Rattle.rules.proofs.Histories.{wait-arbitrations, until-whole, wait-ends, wait-after}
 use Rattle.rules.proofs.Bools.{impossible}
+use Rattle.rules.proofs.AcknowledgedBy.{acknowledges-accepted}
 
 -- ---- refused before any step: 1 and 2 for what is lent, then the source number
 
@@ -143,28 +144,6 @@ wait-leaves s cs source xs r i k = go (waitVerdict s cs source)
 -- ---- which end it is
 
 module _ (s : ℕ) where
-  -- only an interrupt answered with the source's number acknowledges it: neither a DMA service of it nor the top level
-  pub acknowledges-interrupt : (a : Answer) → acknowledges s a ≡ true → (l : ℕ) × (v : ℕ) × (a ≡ answer.Interrupt s l v)
-  acknowledges-interrupt answer.NoStep e = absurd (false≢true e)
-  acknowledges-interrupt (answer.Byte b) e = absurd (false≢true e)
-  acknowledges-interrupt (answer.Written l) e = absurd (false≢true e)
-  acknowledges-interrupt (answer.Triggered f g) e = absurd (false≢true e)
-  acknowledges-interrupt answer.Nothing e = absurd (false≢true e)
-  acknowledges-interrupt answer.TopLevel e = absurd (false≢true e)
-  acknowledges-interrupt (answer.Interrupt k l v) e = (l, v, ap (λ (k : ℕ). answer.Interrupt k l v) (eqb-true k s e))
-  acknowledges-interrupt (answer.Transferred k t) e = absurd (false≢true e)
-  acknowledges-interrupt answer.Returned e = absurd (false≢true e)
-  acknowledges-interrupt answer.Reset e = absurd (false≢true e)
-  acknowledges-interrupt (answer.Refused r) e = absurd (false≢true e)
-
-  -- and every such answer does
-  pub interrupt-acknowledges : (l v : ℕ) → acknowledges s (answer.Interrupt s l v) ≡ true
-  interrupt-acknowledges l v = eq-eqb s s refl
-
-  -- so it is no refusal
-  pub acknowledges-accepted : (a : Answer) → acknowledges s a ≡ true → verdictOf a ≡ verdict.Accepted
-  acknowledges-accepted a e = ap verdictOf (acknowledges-interrupt a e .2)
-
   -- up to the acknowledgement, the last answer tells whether there is one
   pub last-tells : (es : List Event) (a : Answer) → acknowledges s a ≡ false
       → acknowledges s (lastAnswer a (until (eventAcknowledges s) es)) ≡ acknowledgedIn s (until (eventAcknowledges s) es)

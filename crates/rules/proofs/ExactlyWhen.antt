@@ -1,0 +1,208 @@
+-- Document 01, "Refusal numbers", the column "given exactly when": a step is refused with a number where the table says, and only there.
+-- Assumes nothing.
+use mathlib.Core.Path.{_≡_, refl, ap, subst}
+use mathlib.Core.Logic.{_≢_, _⊎_, inl, inr}
+use mathlib.Core.Bool.{true, false, _||_}
+use mathlib.Core.List.{List}
+use Prim.Native.Nat.{ℕ, _%_, _≤_, _<_}
+use native.Mathlib.Omega.{arith}
+use lib.Dec.{eqb, ltb}
+use lib.ListN.{length}
+use borrow.Author.Tests.{ltb-true, ltb-false, eqb-true, eqb-false}
+use Rattle.rules.specs.declared.Channel.{Channel}
+use Rattle.rules.specs.declared.Place.{Place}
+use Rattle.rules.specs.declared.Place.the-variants.{At, Unmodelled}
+use Rattle.rules.specs.declared.Trigger.{Trigger}
+use Rattle.rules.specs.declared.Trigger.the-variants as trigger
+use Rattle.rules.specs.declared.Step.{Step}
+use Rattle.rules.specs.declared.Step.the-variants as step
+use Rattle.rules.specs.declared.Winner.{Winner}
+use Rattle.rules.specs.declared.Winner.the-variants as winner
+use Rattle.rules.specs.declared.Answer.{Answer}
+use Rattle.rules.specs.declared.Answer.the-variants as answer
+use Rattle.rules.specs.declared.Refusal.{Refusal}
+use Rattle.rules.specs.declared.Refusal.the-variants as refusal
+use Rattle.rules.specs.declared.Verdict.{Verdict}
+use Rattle.rules.specs.declared.Verdict.the-variants as verdict
+use Rattle.rules.specs.Image.{Image, State, at, inService}
+use Rattle.rules.specs.Channels.{listOk, dcprByte}
+use Rattle.rules.specs.Outcomes.{Change, verdictOf}
+use Rattle.rules.specs.Registers.{placeOf, readAt, readOf, writeAt, writeOf, resetOf}
+use Rattle.rules.specs.Sources.{recordOf}
+use Rattle.rules.specs.Requests.{winnerOf}
+use Rattle.rules.specs.Triggers.{triggerVerdict, selects, selectsTop, fire, triggerOf}
+use Rattle.rules.specs.Transfer.{pairOf, served, transferOf}
+use Rattle.rules.specs.Arbitration.{granted, topLevel, arbitration, arbitrateOf}
+use Rattle.rules.specs.Return.{returnOf}
+use Rattle.rules.specs.Steps.{lentVerdict, actOf, actIf, stepOf}
+use Rattle.rules.proofs.Bools.{cond-elim, or-cases}
+use Rattle.rules.proofs.WriteLaws.{write-refused, read-refused}
+use Rattle.rules.proofs.SelectionLaws.{pin-refused, nmi-verdict, request-verdict, kind-verdict}
+use Rattle.rules.proofs.TransferLaws.{transfer-memory, transfer-pointer}
+use Rattle.rules.proofs.Refusals.{Lent, lent-means, length-first, list-second, accepted-acts, unknown-step}
+
+-- ---- the table
+
+-- a step reads or writes register r
+abbrev pub Accesses : Step → ℕ → Type 0
+Accesses x r = (x ≡ step.Read r) ⊎ ((v : ℕ) × (x ≡ step.Write r v))
+
+-- a pin over 7, a direction over 1, a record that isn't there
+abbrev pub BadNumber : List Channel → Trigger → Type 0
+BadNumber cs (trigger.Pin k d) = (7 < k) ⊎ (1 < d)
+BadNumber cs trigger.Watchdog = ⊥
+BadNumber cs (trigger.Nmi d) = 1 < d
+BadNumber cs (trigger.Request k) = length cs ≤ k
+BadNumber cs trigger.Unknown = ⊥
+
+-- an arbitration that neither the mark nor the top level decides, with source w as its DMA winner
+pub record DmaWins (m : Image) (cs : List Channel) (x : Step) (w : ℕ) : Type 0 where
+  pub arbitrates : x ≡ step.Arbitrate
+  pub idle : inService m ≡ false
+  pub noTop : topLevel m ≡ false
+  pub wins : winnerOf m cs ≡ winner.Dma w
+
+-- why a step is refused with each number; 3 to 7 only on lent data that are accepted
+abbrev pub Cause : State → List Channel → Step → Refusal → Type 0
+Cause s cs x refusal.Length = length (s .image) ≢ 1265
+Cause s cs x refusal.List = (length (s .image) ≡ 1265) × (listOk cs ≡ false)
+Cause s cs x refusal.Register = Lent s cs verdict.Accepted × (r : ℕ) × Accesses x r × (placeOf (s .image) cs r ≡ Unmodelled)
+Cause s cs x refusal.Number = Lent s cs verdict.Accepted × (t : Trigger) × (x ≡ step.Trigger t) × BadNumber cs t
+Cause s cs x refusal.Memory = Lent s cs verdict.Accepted × (w : ℕ) × DmaWins (s .image) cs x w × (at (s .image) (dcprByte (recordOf cs w)) % 2 ≡ 0)
+Cause s cs x refusal.Pointer =
+    Lent s cs verdict.Accepted × (w : ℕ) × DmaWins (s .image) cs x w × (at (s .image) (dcprByte (recordOf cs w)) % 2 ≡ 1)
+    × ((223 < pairOf (s .image) (recordOf cs w)) ⊎ (223 < at (s .image) (pairOf (s .image) (recordOf cs w))))
+Cause s cs x refusal.Kind = Lent s cs verdict.Accepted × ((x ≡ step.Unknown) ⊎ (x ≡ step.Trigger trigger.Unknown))
+
+-- ---- only then
+
+-- a verdict on a step has its cause, where it refuses
+abbrev Explained : State → List Channel → Step → Verdict → Type 0
+Explained s cs x verdict.Accepted = Unit {0}
+Explained s cs x (verdict.Refused r) = Cause s cs x r
+
+over : (a b x y : ℕ) → (ltb a x || ltb b y) ≡ true → (a < x) ⊎ (b < y)
+over a b x y e = go (or-cases (ltb a x) (ltb b y) e)
+  where
+    go : (ltb a x ≡ true) ⊎ (ltb b y ≡ true) → (a < x) ⊎ (b < y)
+    go (inl t) = inl (ltb-true a x t)
+    go (inr t) = inr (ltb-true b y t)
+
+module _ (s : State) (cs : List Channel) (l : Lent s cs verdict.Accepted) where
+  abbrev m : Image
+  m = s .image
+
+  read-explained : (r : ℕ) (p : Place) → placeOf m cs r ≡ p → Explained s cs (step.Read r) (verdictOf (readAt m p))
+  read-explained r (At i e) f = tt
+  read-explained r Unmodelled f = (l, r, inl refl, f)
+
+  write-explained : (r v : ℕ) (p : Place) → placeOf m cs r ≡ p → Explained s cs (step.Write r v) (verdictOf (writeAt m p v .answer))
+  unfolding writeAt
+  write-explained r v (At i e) f = tt
+  write-explained r v Unmodelled f = (l, r, inr (v, refl), f)
+
+  trigger-explained : (t : Trigger) → Explained s cs (step.Trigger t) (triggerVerdict cs t)
+  unfolding triggerVerdict
+  trigger-explained (trigger.Pin k d) =
+      cond-elim (Explained s cs (step.Trigger (trigger.Pin k d))) (ltb 7 k || ltb 1 d) (λ e. (l, trigger.Pin k d, refl, over 7 1 k d e)) (λ e. tt)
+  trigger-explained trigger.Watchdog = tt
+  trigger-explained (trigger.Nmi d) =
+      cond-elim (Explained s cs (step.Trigger (trigger.Nmi d))) (ltb 1 d) (λ e. (l, trigger.Nmi d, refl, ltb-true 1 d e)) (λ e. tt)
+  trigger-explained (trigger.Request k) =
+      cond-elim (Explained s cs (step.Trigger (trigger.Request k))) (ltb k (length cs)) (λ e. tt)
+      (λ e. (l, trigger.Request k, refl, ltb-false k (length cs) e))
+  trigger-explained trigger.Unknown = (l, inr refl)
+
+  fire-explained : (x : Step) (t : Trigger) (v : Verdict) → Explained s cs x v
+      → Explained s cs x (verdictOf (fire m cs v (selects m t) (selectsTop m t) .answer))
+  unfolding fire
+  fire-explained x t verdict.Accepted h = tt
+  fire-explained x t (verdict.Refused r) h = h
+
+  -- what an arbitration answers with has its cause
+  abbrev Arbitrated : Change → Type 0
+  Arbitrated c = Explained s cs step.Arbitrate (verdictOf (c .answer))
+
+  grant-explained : inService m ≡ false → topLevel m ≡ false → (w : Winner) → winnerOf m cs ≡ w → Arbitrated (granted m cs w)
+  unfolding granted transferOf served
+  grant-explained i t winner.Nobody e = tt
+  grant-explained i t (winner.Interrupt w k) e = tt
+  grant-explained i t (winner.Dma w) e =
+      let c = recordOf cs w in
+      let wins : DmaWins m cs step.Arbitrate w = record { arbitrates = refl; idle = i; noTop = t; wins = e } in
+      cond-elim Arbitrated (eqb (at m (dcprByte c) % 2) 0) (λ z. (l, w, wins, eqb-true (at m (dcprByte c) % 2) 0 z))
+      (λ z. cond-elim Arbitrated (ltb 223 (pairOf m c) || ltb 223 (at m (pairOf m c)))
+      (λ o. (l, w, wins, odd (at m (dcprByte c)) (eqb-false (at m (dcprByte c) % 2) 0 z), over 223 223 (pairOf m c) (at m (pairOf m c)) o)) (λ o. tt))
+    where
+      odd : (n : ℕ) → n % 2 ≢ 0 → n % 2 ≡ 1
+      odd n d = omega arith
+
+  act-explained : (x : Step) → Explained s cs x (verdictOf (actOf s cs x .answer))
+  unfolding actOf readOf writeOf triggerOf arbitrateOf arbitration returnOf resetOf
+  act-explained (step.Read r) = read-explained r (placeOf m cs r) refl
+  act-explained (step.Write r v) = write-explained r v (placeOf m cs r) refl
+  act-explained (step.Trigger t) = fire-explained (step.Trigger t) t (triggerVerdict cs t) (trigger-explained t)
+  act-explained step.Arbitrate =
+      cond-elim Arbitrated (inService m) (λ e. tt)
+      (λ i. cond-elim Arbitrated (topLevel m) (λ e. tt) (λ t. grant-explained i t (winnerOf m cs) refl))
+  act-explained step.Return = tt
+  act-explained step.Reset = tt
+  act-explained step.Unknown = (l, inl refl)
+
+lent-explained : (s : State) (cs : List Channel) (x : Step) (r : Refusal) → Lent s cs (verdict.Refused r) → Cause s cs x r
+lent-explained s cs x refusal.Length h = h
+lent-explained s cs x refusal.List h = h
+lent-explained s cs x refusal.Register h = absurd h
+lent-explained s cs x refusal.Number h = absurd h
+lent-explained s cs x refusal.Memory h = absurd h
+lent-explained s cs x refusal.Pointer h = absurd h
+lent-explained s cs x refusal.Kind h = absurd h
+
+-- a refusal is given only for its cause, whatever the image, the list and the step are
+pub refused-only : (s : State) (cs : List Channel) (x : Step) (r : Refusal) → stepOf s cs x .answer ≡ answer.Refused r → Cause s cs x r
+unfolding stepOf
+refused-only s cs x r p = subst (Explained s cs x) (ap verdictOf p) (go (lentVerdict s cs) (lent-means s cs))
+  where
+    go : (v : Verdict) → Lent s cs v → Explained s cs x (verdictOf (actIf v s cs x .answer))
+    go verdict.Accepted h = act-explained s cs h x
+    go (verdict.Refused q) h = lent-explained s cs x q h
+
+-- ---- and always then
+
+bad-number : (cs : List Channel) (t : Trigger) → BadNumber cs t → triggerVerdict cs t ≡ verdict.Refused refusal.Number
+bad-number cs (trigger.Pin k d) h = pin-refused cs k d h
+bad-number cs trigger.Watchdog h = absurd h
+bad-number cs (trigger.Nmi d) h = nmi-verdict cs d .1 h
+bad-number cs (trigger.Request k) h = request-verdict cs k .1 h
+bad-number cs trigger.Unknown h = absurd h
+
+module _ (s : State) (cs : List Channel) (x : Step) (l : Lent s cs verdict.Accepted) where
+  acts : (y : Step) → x ≡ y → (a : Answer) → actOf s cs y .answer ≡ a → stepOf s cs x .answer ≡ a
+  acts y e a p = rw (e, accepted-acts s cs y (l .0) (l .1)) p
+
+  accessed : (r : ℕ) → Accesses x r → placeOf (s .image) cs r ≡ Unmodelled → stepOf s cs x .answer ≡ answer.Refused refusal.Register
+  unfolding actOf
+  accessed r (inl e) f = acts (step.Read r) e _ (read-refused (s .image) cs r f)
+  accessed r (inr (v, e)) f = acts (step.Write r v) e _ (write-refused (s .image) cs r v f .0)
+
+  triggered : (t : Trigger) (r : Refusal) → x ≡ step.Trigger t → triggerVerdict cs t ≡ verdict.Refused r → stepOf s cs x .answer ≡ answer.Refused r
+  unfolding actOf triggerOf fire
+  triggered t r e v = acts (step.Trigger t) e (answer.Refused r) (rw v)
+
+  transfers : (w : ℕ) (c : Change) → DmaWins (s .image) cs x w → transferOf (s .image) (recordOf cs w) w ≡ c → stepOf s cs x .answer ≡ c .answer
+  unfolding actOf arbitrateOf arbitration granted
+  transfers w c h p = acts step.Arbitrate (h .arbitrates) (c .answer) (rw (h .idle, h .noTop, h .wins, p))
+
+  unknown : (x ≡ step.Unknown) ⊎ (x ≡ step.Trigger trigger.Unknown) → stepOf s cs x .answer ≡ answer.Refused refusal.Kind
+  unknown (inl e) = rw (e, unknown-step s cs (l .0) (l .1))
+  unknown (inr e) = triggered trigger.Unknown refusal.Kind e (kind-verdict cs .1)
+
+-- where there is a cause the step is refused with its number, and by refused-same nothing changes
+pub refused-whenever : (s : State) (cs : List Channel) (x : Step) (r : Refusal) → Cause s cs x r → stepOf s cs x .answer ≡ answer.Refused r
+refused-whenever s cs x refusal.Length h = rw (length-first s cs x h)
+refused-whenever s cs x refusal.List (h, f) = rw (list-second s cs x h f)
+refused-whenever s cs x refusal.Register (l, r, a, f) = accessed s cs x l r a f
+refused-whenever s cs x refusal.Number (l, t, e, h) = triggered s cs x l t refusal.Number e (bad-number cs t h)
+refused-whenever s cs x refusal.Memory (l, w, h, z) = transfers s cs x l w _ h (transfer-memory (s .image) (recordOf cs w) w z)
+refused-whenever s cs x refusal.Pointer (l, w, h, o, p) = transfers s cs x l w _ h (transfer-pointer (s .image) (recordOf cs w) w o p)
+refused-whenever s cs x refusal.Kind (l, h) = unknown s cs x l h
