@@ -12,7 +12,7 @@ use Rattle.rules.specs.declared.Channel.{Channel}
 use Rattle.rules.specs.Image.{Image, at, has, pageByte, bitOf, inService, EITR, CPL, TLIP, TLI, IEN, IAM, TLTEV, TLIS, IAOS, TLNM, HL}
 use Rattle.rules.specs.Channels.{recordAt, idcrByte, ivrByte, dcprByte, daprByte, dataByte}
 use Rattle.rules.specs.Sources.{pendingBit, pending, unmasked, dmaEnabled, level}
-use Rattle.rules.proofs.AcknowledgementLaws.{external-level}
+use Rattle.rules.proofs.LevelLaws.{external-level}
 
 -- the bit of weight w is 1
 abbrev pub weighs : ℕ → ℕ → Bool

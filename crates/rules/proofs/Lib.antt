@@ -13,6 +13,7 @@ pub mod SelectionLaws
 pub mod TriggerLaws
 pub mod RequestLaws
 pub mod WinnerLaws
+pub mod LevelLaws
 pub mod AcknowledgementLaws
 pub mod FieldLaws
 pub mod TransferLaws
