@@ -1,5 +1,4 @@
--- Document 01's acknowledgement, read a second time: what it changes and what it leaves, mode by mode, and its vector and level said in another way.
--- Assumes nothing.
+-- Document 01's acknowledgement, read a second time: what it changes and what it leaves, mode by mode. Assumes nothing.
 use mathlib.Core.Path.{_≡_, refl, sym, ap, _∙_}
 use mathlib.Core.Logic.{_≢_, _⊎_, inl, inr}
 use mathlib.Core.List.{List}
