@@ -161,16 +161,18 @@ unfolding until
 until-none [] = refl
 until-none (e ∷ es) = ap (λ (fs : List Event). e ∷ fs) (until-none es)
 
--- after the events it is as after the steps done
+-- after the events it is as after the steps done, and the arbitrations made are theirs
 abbrev pub After : State → List Channel → List Step → List Event → Type 0
-After s cs xs es = stateAfter s es ≡ stateAfter s (history s cs (take (stepsDone es) xs))
+After s cs xs es =
+    (stateAfter s es ≡ stateAfter s (history s cs (take (stepsDone es) xs)))
+    × (arbitrationsIn es ≡ arbitrationsIn (history s cs (take (stepsDone es) xs)))
 
--- a refused one leaves what it got, so what is left is what the steps done leave
+-- a refused one leaves what it got and is no arbitration made
 done-after : (q : Event → Bool) (s : State) (cs : List Channel) (xs : List Step)
     → After s cs xs (until q (until eventRefused (history s cs xs)))
 unfolding until counted history stateAfter
-done-after q s cs [] = refl
-done-after q s cs (x ∷ xs) = go (eventRefused e) (q e) (refused-same s cs x) (done-after q t cs xs)
+done-after q s cs [] = (refl, refl)
+done-after q s cs (x ∷ xs) = go (eventRefused e) (q e) refl (refused-same s cs x) (done-after q t cs xs)
   where
     t : State
     t = stepOf s cs x .state
@@ -181,51 +183,23 @@ done-after q s cs (x ∷ xs) = go (eventRefused e) (q e) (refused-same s cs x) (
     rest : List Event
     rest = until eventRefused (history t cs xs)
 
-    go : (b c : Bool) → (b ≡ true → t ≡ s) → After t cs xs (until q rest)
-        → stateAfter t (cond c [] (until q (cond b [] rest)))
-        ≡ stateAfter s (history s cs (take (one (not b) + stepsDone (cond c [] (until q (cond b [] rest)))) (x ∷ xs)))
-    go true true k ih = k refl
-    go true false k ih = k refl
-    go false true k ih = refl
-    go false false k ih = rw one-add ih
+    none-made : eventRefused e ≡ true → one (madeArbitration e) + 0 ≡ 0
+    none-made r = rw r (ap (λ (b : Bool). one b + 0) (and-false (isArbitration x)))
 
--- and the arbitrations made are those of the steps done: a refused one is none
-arbitrations-after : (q : Event → Bool) (s : State) (cs : List Channel) (xs : List Step)
-    → arbitrationsIn (until q (until eventRefused (history s cs xs)))
-    ≡ arbitrationsIn (history s cs (take (stepsDone (until q (until eventRefused (history s cs xs)))) xs))
-unfolding until counted history
-arbitrations-after q s cs [] = refl
-arbitrations-after q s cs (x ∷ xs) = go (eventRefused e) (q e) refl (arbitrations-after q t cs xs)
-  where
-    t : State
-    t = stepOf s cs x .state
+    go : (b c : Bool) → eventRefused e ≡ b → (b ≡ true → t ≡ s) → After t cs xs (until q rest)
+        → (stateAfter t (cond c [] (until q (cond b [] rest)))
+        ≡ stateAfter s (history s cs (take (one (not b) + stepsDone (cond c [] (until q (cond b [] rest)))) (x ∷ xs))))
+        × (one (madeArbitration e) + arbitrationsIn (cond c [] (until q (cond b [] rest)))
+        ≡ arbitrationsIn (history s cs (take (one (not b) + stepsDone (cond c [] (until q (cond b [] rest)))) (x ∷ xs))))
+    go true true r k ih = (k refl, none-made r)
+    go true false r k ih = (k refl, none-made r)
+    go false true r k ih = (refl, refl)
+    go false false r k ih = (rw one-add (ih .0), rw one-add (ap (λ (n : ℕ). one (madeArbitration e) + n) (ih .1)))
 
-    e : Event
-    e = record { before = s; step = x; outcome = stepOf s cs x }
-
-    rest : List Event
-    rest = until eventRefused (history t cs xs)
-
-    no-more : eventRefused e ≡ true → one (madeArbitration e) + 0 ≡ 0
-    no-more r = rw r (ap (λ (b : Bool). one b + 0) (and-false (isArbitration x)))
-
-    go : (b c : Bool) → eventRefused e ≡ b → arbitrationsIn (until q rest) ≡ arbitrationsIn (history t cs (take (stepsDone (until q rest)) xs))
-        → one (madeArbitration e) + arbitrationsIn (cond c [] (until q (cond b [] rest)))
-        ≡ arbitrationsIn (history s cs (take (one (not b) + stepsDone (cond c [] (until q (cond b [] rest)))) (x ∷ xs)))
-    go true true r ih = no-more r
-    go true false r ih = no-more r
-    go false true r ih = refl
-    go false false r ih = rw one-add (ap (λ (n : ℕ). one (madeArbitration e) + n) ih)
-
--- a run leaves what the steps done leave
+-- so it is of a run
 pub run-after : (s : State) (cs : List Channel) (xs : List Step) → After s cs xs (runEvents s cs xs)
 run-after s cs xs = simp until-none at (done-after (λ e. false) s cs xs)
 
--- and so does a wait report
+-- and of a wait report
 pub wait-after : (s : State) (cs : List Channel) (source : ℕ) (xs : List Step) → After s cs xs (waitEvents s cs source xs)
 wait-after s cs source xs = done-after (eventAcknowledges source) s cs xs
-
--- and counts their arbitrations
-pub wait-arbitrations : (s : State) (cs : List Channel) (source : ℕ) (xs : List Step)
-    → arbitrationsIn (waitEvents s cs source xs) ≡ arbitrationsIn (history s cs (take (stepsDone (waitEvents s cs source xs)) xs))
-wait-arbitrations s cs source xs = arbitrations-after (eventAcknowledges source) s cs xs

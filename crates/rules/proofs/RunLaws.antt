@@ -109,5 +109,5 @@ unfolding runOf runReport history stateAfter
 run-leaves s cs xs = go (lentVerdict s cs)
   where
     go : (v : Verdict) → runIf v s cs xs .state ≡ stateAfter s (history s cs (take (stepsIn (runIf v s cs xs .answer)) xs))
-    go verdict.Accepted = simp (ran-steps, zero-add) (run-after s cs xs)
+    go verdict.Accepted = simp (ran-steps, zero-add) (run-after s cs xs .0)
     go (verdict.Refused r) = refl

@@ -23,7 +23,7 @@ use Rattle.rules.specs.Outcomes.{verdictOf}
 use Rattle.rules.specs.Sources.{sources}
 use Rattle.rules.specs.Steps.{lentVerdict}
 use Rattle.rules.specs.Runs.{Event, history, stateAfter, any, until, stepsDone, runEvents, lastAnswer, ranIf, runReport, runOf, acknowledges, acknowledgedIn, arbitrationsIn, waitEvents, waitedIf, waitOutcome, waitReport, sourceIf, waitVerdict, waitIf, waitOf, eventAcknowledges}
-use Rattle.rules.proofs.Histories.{wait-arbitrations, until-whole, wait-ends, wait-after}
+use Rattle.rules.proofs.Histories.{until-whole, wait-ends, wait-after}
 use Rattle.rules.proofs.Bools.{impossible}
 use Rattle.rules.proofs.AcknowledgedBy.{acknowledges-accepted}
 
@@ -135,8 +135,8 @@ wait-leaves s cs source xs r i k = go (waitVerdict s cs source)
         let f : arbitrationsOf (waitIf verdict.Accepted s cs source xs .answer) ≡ 0 + arbitrationsIn es =
         waited-each arbitrationsOf (0 + arbitrationsIn es) source n (0 + arbitrationsIn es) last refl refl (λ r. refl) (verdictOf last) in
         let index : stepsDone es ≡ i = sym (e ∙ zero-add (stepsDone es)) ∙ ap (indexOr n) p in (
-          wait-after s cs source xs ∙ ap (λ (n : ℕ). stateAfter s (history s cs (take n xs))) index,
-          sym (ap arbitrationsOf p) ∙ f ∙ zero-add (arbitrationsIn es) ∙ wait-arbitrations s cs source xs
+          wait-after s cs source xs .0 ∙ ap (λ (n : ℕ). stateAfter s (history s cs (take n xs))) index,
+          sym (ap arbitrationsOf p) ∙ f ∙ zero-add (arbitrationsIn es) ∙ wait-after s cs source xs .1
               ∙ ap (λ (n : ℕ). arbitrationsIn (history s cs (take n xs))) index,
         )
     go (verdict.Refused q) p = impossible (cc)
