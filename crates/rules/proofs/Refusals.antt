@@ -1,9 +1,10 @@
--- Document 01, "Refusal numbers": a refused step changes nothing, and refusals 1 and 2 come before any other and from nothing else.
+-- Document 01, "Refusal numbers": a refused step changes nothing, refusals 1 and 2 come before any other, and only a refusal is refused.
 -- Assumes nothing.
-use mathlib.Core.Path.{_≡_, refl, sym, ap, subst, _∙_}
+use mathlib.Core.Path.{_≡_, refl, sym, ap, _∙_}
 use mathlib.Core.Logic.{_≢_}
 use mathlib.Core.Bool.{Bool, true, false, false≢true, cond, _||_}
 use mathlib.Core.List.{List}
+use mathlib.Core.Option.{Option}
 use Prim.Native.Nat.{ℕ, _%_}
 use lib.Dec.{eqb, ltb}
 use lib.ListN.{length}
@@ -12,7 +13,6 @@ use Rattle.rules.specs.declared.Channel.{Channel}
 use Rattle.rules.specs.declared.Place.{Place}
 use Rattle.rules.specs.declared.Place.the-variants.{At, Unmodelled}
 use Rattle.rules.specs.declared.Trigger.{Trigger}
-use Rattle.rules.specs.declared.Trigger.the-variants as trigger
 use Rattle.rules.specs.declared.Step.{Step}
 use Rattle.rules.specs.declared.Step.the-variants as step
 use Rattle.rules.specs.declared.Winner.{Winner}
@@ -25,15 +25,16 @@ use Rattle.rules.specs.declared.Verdict.{Verdict}
 use Rattle.rules.specs.declared.Verdict.the-variants as verdict
 use Rattle.rules.specs.Image.{Image, State, state, imageLength, at, inService}
 use Rattle.rules.specs.Channels.{listOk, dcprByte}
-use Rattle.rules.specs.Outcomes.{Change, change, Outcome, outcome, changed, verdictOf, refuses, isRefused}
-use Rattle.rules.specs.Registers.{readAt, readOf, writeAt, writeOf, resetOf, placeOf}
+use Rattle.rules.specs.Outcomes.{Change, change, outcome, changed, verdictOf, refuses, isRefused}
+use Rattle.rules.specs.Registers.{writeAt, writeOf, resetOf, placeOf}
 use Rattle.rules.specs.Sources.{recordOf}
 use Rattle.rules.specs.Triggers.{triggerVerdict, selects, selectsTop, fire, triggerOf}
 use Rattle.rules.specs.Requests.{winnerOf}
 use Rattle.rules.specs.Transfer.{pairOf, lastRegister, served, transferOf}
-use Rattle.rules.specs.Arbitration.{granted, topLevel, arbitration, arbitrateOf}
+use Rattle.rules.specs.Arbitration.{granted, topLevel, enteredTop, arbitration, arbitrateOf}
 use Rattle.rules.specs.Return.{returnOf}
 use Rattle.rules.specs.Steps.{lentVerdict, actOf, actIf, stepOf}
+use Rattle.rules.proofs.Bools.{cond-elim}
 
 -- ---- what is lent
 
@@ -74,89 +75,56 @@ lent-means s cs = go (eqb (length (s .image)) imageLength) (listOk cs) refl refl
     go true false e f = (eqb-true (length (s .image)) imageLength e, f)
     go false l e f = eqb-false (length (s .image)) imageLength e
 
--- ---- the rules below: what they refuse changes nothing, and none of them gives 1 or 2
+-- ---- the rules below: what they refuse changes nothing
 
-abbrev forLent : Verdict → Bool
-forLent verdict.Accepted = false
-forLent (verdict.Refused refusal.Length) = true
-forLent (verdict.Refused refusal.List) = true
-forLent (verdict.Refused refusal.Register) = false
-forLent (verdict.Refused refusal.Number) = false
-forLent (verdict.Refused refusal.Memory) = false
-forLent (verdict.Refused refusal.Pointer) = false
-forLent (verdict.Refused refusal.Kind) = false
+-- a change that is refused is none
+abbrev Unchanged : Image → Change → Type 0
+Unchanged m c = isRefused (c .answer) ≡ true → c .image ≡ m
 
-record Own (m : Image) (c : Change) : Type 0 where
-  kept : isRefused (c .answer) ≡ true → c .image ≡ m
-  own : forLent (verdictOf (c .answer)) ≡ false
+accepts : {m : Image} (c : Change) → verdictOf (c .answer) ≡ verdict.Accepted → Unchanged m c
+accepts c e t = absurd (false≢true (sym (ap refuses e) ∙ t))
 
-either : {m : Image} (t : Bool) {a b : Change} → Own m a → Own m b → Own m (cond t a b)
-either true p q = p
-either false p q = q
-
-accepts : {m : Image} (c : Change) → verdictOf (c .answer) ≡ verdict.Accepted → Own m c
-accepts c e = record { kept = λ t. absurd (false≢true (sym (ap refuses e) ∙ t)); own = ap forLent e }
-
-stays : {m : Image} (a : Answer) → forLent (verdictOf a) ≡ false → Own m (change a m)
-stays a e = record { kept = λ t. refl; own = e }
-
-read-own : (m : Image) (p : Place) → Own m (change (readAt m p) m)
-read-own m (At i e) = stays (readAt m (At i e)) refl
-read-own m Unmodelled = stays (readAt m Unmodelled) refl
-
-write-own : (m : Image) (p : Place) (v : ℕ) → Own m (writeAt m p v)
+write-kept : (m : Image) (p : Place) (v : ℕ) → Unchanged m (writeAt m p v)
 unfolding writeAt
-write-own m (At i e) v = accepts (writeAt m (At i e) v) refl
-write-own m Unmodelled v = stays (answer.Refused refusal.Register) refl
+write-kept m (At i e) v = accepts (writeAt m (At i e) v) refl
+write-kept m Unmodelled v = λ t. refl
 
-pick-own : (t : Bool) (u v : Verdict) → forLent u ≡ false → forLent v ≡ false → forLent (cond t u v) ≡ false
-pick-own true u v p q = p
-pick-own false u v p q = q
-
-trigger-own : (cs : List Channel) (t : Trigger) → forLent (triggerVerdict cs t) ≡ false
-unfolding triggerVerdict
-trigger-own cs (trigger.Pin k d) = pick-own (ltb 7 k || ltb 1 d) (verdict.Refused refusal.Number) verdict.Accepted refl refl
-trigger-own cs trigger.Watchdog = refl
-trigger-own cs (trigger.Nmi d) = pick-own (ltb 1 d) (verdict.Refused refusal.Number) verdict.Accepted refl refl
-trigger-own cs (trigger.Request k) = pick-own (ltb k (length cs)) verdict.Accepted (verdict.Refused refusal.Number) refl refl
-trigger-own cs trigger.Unknown = refl
-
-fire-own : (m : Image) (cs : List Channel) (t : Trigger) (v : Verdict) → forLent v ≡ false → Own m (fire m cs v (selects m t) (selectsTop m t))
+fire-kept : (m : Image) (cs : List Channel) (v : Verdict) (o : Option ℕ) (t : Bool) → Unchanged m (fire m cs v o t)
 unfolding fire
-fire-own m cs t verdict.Accepted e = accepts (fire m cs verdict.Accepted (selects m t) (selectsTop m t)) refl
-fire-own m cs t (verdict.Refused r) e = stays (answer.Refused r) e
+fire-kept m cs verdict.Accepted o t = accepts (fire m cs verdict.Accepted o t) refl
+fire-kept m cs (verdict.Refused r) o t = λ e. refl
 
-transfer-own : (m : Image) (c : Channel) (s : ℕ) → Own m (transferOf m c s)
+transfer-kept : (m : Image) (c : Channel) (s : ℕ) → Unchanged m (transferOf m c s)
 unfolding transferOf served
-transfer-own m c s =
-    either (eqb (at m (dcprByte c) % 2) 0) (stays (answer.Refused refusal.Memory) refl)
-    (either (ltb lastRegister (pairOf m c) || ltb lastRegister (at m (pairOf m c))) (stays (answer.Refused refusal.Pointer) refl) (accepts (served m c s) refl))
+transfer-kept m c s =
+    cond-elim (Unchanged m) (eqb (at m (dcprByte c) % 2) 0) (λ e t. refl)
+    (λ e. cond-elim (Unchanged m) (ltb lastRegister (pairOf m c) || ltb lastRegister (at m (pairOf m c))) (λ f t. refl) (λ f. accepts (served m c s) refl))
 
-granted-own : (m : Image) (cs : List Channel) (w : Winner) → Own m (granted m cs w)
+granted-kept : (m : Image) (cs : List Channel) (w : Winner) → Unchanged m (granted m cs w)
 unfolding granted
-granted-own m cs winner.Nobody = stays answer.Nothing refl
-granted-own m cs (winner.Dma s) = transfer-own m (recordOf cs s) s
-granted-own m cs (winner.Interrupt s l) = accepts (granted m cs (winner.Interrupt s l)) refl
+granted-kept m cs winner.Nobody = λ t. refl
+granted-kept m cs (winner.Dma s) = transfer-kept m (recordOf cs s) s
+granted-kept m cs (winner.Interrupt s l) = accepts (granted m cs (winner.Interrupt s l)) refl
 
-arbitration-own : (m : Image) (cs : List Channel) → Own m (arbitration m cs)
+arbitration-kept : (m : Image) (cs : List Channel) → Unchanged m (arbitration m cs)
 unfolding arbitration
-arbitration-own m cs = either (inService m) (stays answer.Nothing refl) (either (topLevel m) (accepts _ refl) (granted-own m cs (winnerOf m cs)))
+arbitration-kept m cs =
+    cond-elim (Unchanged m) (inService m) (λ e t. refl)
+    (λ e. cond-elim (Unchanged m) (topLevel m) (λ f. accepts (change answer.TopLevel (enteredTop m)) refl) (λ f. granted-kept m cs (winnerOf m cs)))
 
-abbrev OwnStep : State → Outcome → Type 0
-OwnStep s o = (isRefused (o .answer) ≡ true → o .state ≡ s) × (forLent (verdictOf (o .answer)) ≡ false)
+of-image : (s : State) (c : Change) → Unchanged (s .image) c → isRefused (c .answer) ≡ true → changed s c .state ≡ s
+of-image s c h e = ap state (h e)
 
-of-image : (s : State) (c : Change) → Own (s .image) c → OwnStep s (changed s c)
-of-image s c h = (λ e. ap state (h .kept e), h .own)
-
-act-own : (s : State) (cs : List Channel) (x : Step) → OwnStep s (actOf s cs x)
-unfolding actOf readOf writeOf triggerOf arbitrateOf returnOf resetOf
-act-own s cs (step.Read r) = of-image s (change (readOf (s .image) cs r) (s .image)) (read-own (s .image) (placeOf (s .image) cs r))
-act-own s cs (step.Write r v) = of-image s (writeOf (s .image) cs r v) (write-own (s .image) (placeOf (s .image) cs r) v)
-act-own s cs (step.Trigger t) = of-image s (triggerOf (s .image) cs t) (fire-own (s .image) cs t (triggerVerdict cs t) (trigger-own cs t))
-act-own s cs step.Arbitrate = of-image s (arbitration (s .image) cs) (arbitration-own (s .image) cs)
-act-own s cs step.Return = of-image s (returnOf (s .image)) (accepts (returnOf (s .image)) refl)
-act-own s cs step.Reset = of-image s (resetOf (s .image)) (accepts (resetOf (s .image)) refl)
-act-own s cs step.Unknown = (λ e. refl, refl)
+act-kept : (s : State) (cs : List Channel) (x : Step) → isRefused (actOf s cs x .answer) ≡ true → actOf s cs x .state ≡ s
+unfolding actOf writeOf triggerOf arbitrateOf returnOf resetOf
+act-kept s cs (step.Read r) = λ e. refl
+act-kept s cs (step.Write r v) = of-image s (writeOf (s .image) cs r v) (write-kept (s .image) (placeOf (s .image) cs r) v)
+act-kept s cs (step.Trigger t) =
+    of-image s (triggerOf (s .image) cs t) (fire-kept (s .image) cs (triggerVerdict cs t) (selects (s .image) t) (selectsTop (s .image) t))
+act-kept s cs step.Arbitrate = of-image s (arbitration (s .image) cs) (arbitration-kept (s .image) cs)
+act-kept s cs step.Return = of-image s (returnOf (s .image)) (accepts (returnOf (s .image)) refl)
+act-kept s cs step.Reset = of-image s (resetOf (s .image)) (accepts (resetOf (s .image)) refl)
+act-kept s cs step.Unknown = λ e. refl
 
 -- ---- a step
 
@@ -180,7 +148,7 @@ unfolding stepOf
 refused-same s cs x = go (lentVerdict s cs)
   where
     go : (v : Verdict) → isRefused (actIf v s cs x .answer) ≡ true → actIf v s cs x .state ≡ s
-    go verdict.Accepted = act-own s cs x .0
+    go verdict.Accepted = act-kept s cs x
     go (verdict.Refused r) = λ e. refl
 
 -- refusal 1 comes first
@@ -204,22 +172,3 @@ pub unknown-step : (s : State) (cs : List Channel) → length (s .image) ≡ ima
     → stepOf s cs step.Unknown ≡ outcome (answer.Refused refusal.Kind) s
 unfolding actOf
 unknown-step s cs = accepted-acts s cs step.Unknown
-
--- a step that is refused for what is lent is so by the verdict on it, and by no rule below
-lent-refused : (s : State) (cs : List Channel) (x : Step) (r : Refusal) → forLent (verdict.Refused r) ≡ true → stepOf s cs x .answer ≡ answer.Refused r
-    → Lent s cs (verdict.Refused r)
-unfolding stepOf
-lent-refused s cs x r f = go (lentVerdict s cs) (lent-means s cs)
-  where
-    go : (v : Verdict) → Lent s cs v → actIf v s cs x .answer ≡ answer.Refused r → Lent s cs (verdict.Refused r)
-    go verdict.Accepted h p = absurd (false≢true (sym (act-own s cs x .1) ∙ ap (λ (a : Answer). forLent (verdictOf a)) p ∙ f))
-    go (verdict.Refused q) h p = subst (Lent s cs) (ap verdictOf p) h
-
--- refusal 1 is given only for the length
-pub refused-length : (s : State) (cs : List Channel) (x : Step) → stepOf s cs x .answer ≡ answer.Refused refusal.Length → length (s .image) ≢ imageLength
-refused-length s cs x = lent-refused s cs x refusal.Length refl
-
--- refusal 2 only for the list of an image of the right length
-pub refused-list : (s : State) (cs : List Channel) (x : Step) → stepOf s cs x .answer ≡ answer.Refused refusal.List
-    → (length (s .image) ≡ imageLength) × (listOk cs ≡ false)
-refused-list s cs x = lent-refused s cs x refusal.List refl
