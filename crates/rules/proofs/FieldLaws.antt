@@ -1,5 +1,5 @@
--- Document 01's map of the image, read a second time: the bits that the rules name by their register's number and their weight in it,
--- the sources' bits and levels so too, and the bytes of a record's registers. Assumes nothing.
+-- Document 01's map of the image, read a second time: the bits that the rules name by their register's number and their weight in it, and
+-- the sources' bits and levels so too. Assumes nothing.
 use mathlib.Core.Path.{_≡_, refl, ap}
 use mathlib.Core.List.{List}
 use mathlib.Core.Bool.{Bool, true, false, not}
@@ -9,8 +9,8 @@ use lib.Dec.{eqb}
 use borrow.Author.Tests.{lt-ltb, le-ltb, ne-eqb}
 use Rattle.bits.specs.Bits.{digit, bit}
 use Rattle.rules.specs.declared.Channel.{Channel}
-use Rattle.rules.specs.Image.{Image, at, has, pageByte, bitOf, inService, EITR, CPL, TLIP, TLI, IEN, IAM, TLTEV, TLIS, IAOS, TLNM, HL}
-use Rattle.rules.specs.Channels.{recordAt, idcrByte, ivrByte, dcprByte, daprByte, dataByte}
+use Rattle.rules.specs.Image.{Image, at, has, bitOf, inService, EITR, CPL, TLIP, TLI, IEN, IAM, TLTEV, TLIS, IAOS, TLNM, HL}
+use Rattle.rules.specs.Channels.{recordAt, idcrByte}
 use Rattle.rules.specs.Sources.{pendingBit, pending, unmasked, dmaEnabled, level}
 use Rattle.rules.proofs.LevelLaws.{external-level}
 
@@ -59,10 +59,3 @@ module _ (m : Image) where
   record-source cs k =
       let e : 8 + k - 8 ≡ k = omega arith in
       rw (le-ltb (8 + k) 8 (omega arith), e) (refl, refl, refl, refl)
-
--- a record's five registers stand on its page
-pub record-bytes : (c : Channel)
-    → (idcrByte c ≡ pageByte (c .page) (c .idcr)) × (ivrByte c ≡ pageByte (c .page) (c .ivr)) × (dcprByte c ≡ pageByte (c .page) (c .dcpr))
-    × (daprByte c ≡ pageByte (c .page) (c .dapr)) × (dataByte c ≡ pageByte (c .page) (c .io))
-unfolding idcrByte ivrByte dcprByte daprByte dataByte
-record-bytes c = (refl, refl, refl, refl, refl)

@@ -13,6 +13,7 @@ use Rattle.rules.specs.declared.Refusal.the-variants as refusal
 use Rattle.rules.specs.declared.Verdict.the-variants as verdict
 use Rattle.rules.specs.Image.{Image, at, pageByte}
 use Rattle.rules.specs.Registers.{viewVerdict, viewOf}
+use Rattle.rules.proofs.Bools.{impossible}
 
 -- ---- when it is refused
 
@@ -38,8 +39,8 @@ view-only m p a = go (ℕ-discrete (length m) 1265) (decLe p 63)
   where
     go : Dec (length m ≡ 1265) → Dec (p ≤ 63) → (length m ≡ 1265) × (p ≤ 63)
     go (yes l) (yes h) = (l, h)
-    go (yes l) (no n) = let z : _≡_ {A = ℕ} 0 1 = cc (view-page-refused m p l (omega arith)) in absurd (omega arith)
-    go (no d) _ = let z : _≡_ {A = ℕ} 0 1 = cc (view-length-refused m p d) in absurd (omega arith)
+    go (yes l) (no n) = impossible (cc (view-page-refused m p l (omega arith)))
+    go (no d) _ = impossible (cc (view-length-refused m p d))
 
 -- ---- what it holds
 
