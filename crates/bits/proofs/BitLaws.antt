@@ -12,7 +12,7 @@ use lib.Dec.{T, eqb, leb, eqb→eq}
 use lib.Bits.{bitAnd, bitOr, and-step, or-step, or-shr, or-mod, and-shr, and-mod, or-zero-r, and-mask, and-lt, or-lt}
 use borrow.Author.Tests.{eq-eqb, ne-eqb, le-leb}
 use Rattle.bits.specs.Bits.{digit, bit, putBit}
-use Rattle.bits.proofs.Tests.{every, passes₂, same-below}
+use Rattle.bits.proofs.Tests.{every, passes, passes₂, same-below, fails}
 
 -- ---- a digit is 0 or 1, and the test tells which
 
@@ -28,6 +28,11 @@ two (suc (suc d)) h = absurd (omega arith)
 pub digit-bit : (k b : ℕ) → digit k b ≡ cond (bit k b) 1 0
 unfolding bit
 digit-bit k b = two (digit k b) (digit-lt k b)
+
+-- no bit of 0 is 1
+pub bit-zero : (k : ℕ) → k < 8 → bit k 0 ≡ false
+unfolding bit digit
+bit-zero k h = fails (bit k 0) (passes 8 (λ k. not (bit k 0)) tt k h)
 
 -- ---- and, or, complement
 

@@ -83,7 +83,8 @@ register-byte c (suc (suc (suc zero))) h = refl
 register-byte c (suc (suc (suc (suc zero)))) h = refl
 register-byte c (suc (suc (suc (suc (suc q))))) h = absurd (omega arith)
 
-record-range : (c : Channel) → recordOk c ≡ true → (r : ℕ) → r < 5 → OnPage (registerByte c r)
+-- they stand on pages 1 to 63
+pub record-range : (c : Channel) → recordOk c ≡ true → (r : ℕ) → r < 5 → OnPage (registerByte c r)
 unfolding pageByte
 record-range c ok r h =
     let w = record-in-range c ok in

@@ -6,13 +6,14 @@ use mathlib.Core.Bool.{true, false}
 use Prim.Native.Nat.{ℕ, suc, _+_, _*_, _/_, _%_, _≤_, _<_}
 use native.Mathlib.Omega.{arith}
 use native.Mathlib.Decide.{ℕ-discrete}
-use lib.ListN.{length, getD, length-append}
+use lib.Dec.{leb}
+use lib.ListN.{length, getD, take, length-append}
 use lib.Seq.{length-take-le, getD-take, ext-getD}
-use borrow.Author.Tests.{le-leb, lt-leb, lt-ltb, le-ltb, ne-eqb}
+use borrow.Author.Tests.{le-leb, lt-leb, leb-true, leb-false, lt-ltb, le-ltb, ne-eqb}
 use Rattle.rules.specs.declared.Channel.{Channel}
 use Rattle.rules.specs.declared.Channels.{Channels}
 use Rattle.rules.specs.Channels.{noChannel, recordAt, between, recordOk, recordsOk, member, distinct, allBytes, listOk, listOf}
-use Rattle.rules.proofs.Bools.{both}
+use Rattle.rules.proofs.Bools.{both, true-or, not-both}
 use Rattle.rules.proofs.ChannelLaws.{registerByte, registerNumber, InRange, all-length, all-at}
 
 -- ---- a record
@@ -84,21 +85,32 @@ list-long cs h = rw (lt-leb (length cs) 12 h)
 
 -- ---- a list by value
 
+-- a count of twelve at most stands for the first of its items
+pub listOf-take : (all : Channels) → all .count ≤ 12 → listOf all ≡ take (all .count) (all .items)
+unfolding listOf
+listOf-take all h = rw (le-ltb 12 (all .count) h)
+
 module _ (all : Channels) (twelve : length (all .items) ≡ 12) where
   -- it stands for as many records as its count says
   pub listOf-length : all .count ≤ 12 → length (listOf all) ≡ all .count
-  unfolding listOf
-  listOf-length h = rw (le-ltb 12 (all .count) h) (length-take-le (all .count) (all .items) (omega arith))
+  listOf-length h = rw (listOf-take all h) (length-take-le (all .count) (all .items) (omega arith))
 
   -- the first of its items
   pub listOf-at : all .count ≤ 12 → (i : ℕ) → i < all .count → recordAt (listOf all) i ≡ getD (all .items) i noChannel
-  unfolding listOf
-  listOf-at h i g = rw (le-ltb 12 (all .count) h) (getD-take (all .count) (all .items) i noChannel g)
+  listOf-at h i g = rw (listOf-take all h) (getD-take (all .count) (all .items) i noChannel g)
 
   -- a count over twelve is a list outside the rules
   pub listOf-long : 12 < all .count → listOk (listOf all) ≡ false
   unfolding listOf
   listOf-long h = rw (lt-ltb 12 (all .count) h) (list-long (all .items ++ (noChannel ∷ [])) (simp length-append (omega arith)))
+
+  -- so a list within the rules has a count of twelve at most
+  pub listOf-count : listOk (listOf all) ≡ true → all .count ≤ 12
+  listOf-count ok = go (true-or (leb (all .count) 12))
+    where
+      go : (leb (all .count) 12 ≡ true) ⊎ (leb (all .count) 12 ≡ false) → all .count ≤ 12
+      go (inl t) = leb-true (all .count) 12 t
+      go (inr t) = absurd (not-both (listOk (listOf all)) ok (listOf-long (leb-false (all .count) 12 t)))
 
 -- items past the count are not looked at
 pub listOf-same : (all other : Channels) → length (all .items) ≡ 12 → length (other .items) ≡ 12 → all .count ≤ 12 → other .count ≡ all .count

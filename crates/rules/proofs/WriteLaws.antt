@@ -12,7 +12,7 @@ use lib.ListN.{length, set, length-set}
 use lib.Seq.{getD-set-same, getD-set-other}
 use borrow.Author.Tests.{ne-eqb}
 use Rattle.bits.specs.Bits.{digit, bit}
-use Rattle.bits.proofs.BitLaws.{bit-and, bit-or, bit-not, and-byte}
+use Rattle.bits.proofs.BitLaws.{bit-zero, bit-and, bit-or, bit-not, and-byte}
 use Rattle.bits.proofs.Tests.{passes, fails}
 use Rattle.rules.specs.declared.Channel.{Channel}
 use Rattle.rules.specs.declared.Place.{Place}
@@ -25,10 +25,6 @@ use Rattle.rules.proofs.Bools.{or-r, true-or}
 use Rattle.rules.proofs.PlaceLaws.{place-range, place-paged, place-same, place-zero}
 
 -- ---- the bytes
-
-bit-zero : (j : ℕ) → j < 8 → bit j 0 ≡ false
-unfolding bit digit
-bit-zero j h = fails (bit j 0) (passes 8 (λ j. not (bit j 0)) tt j h)
 
 -- 80h is bit 7 alone
 bit-top : (j : ℕ) → j < 8 → bit j 0x80 ≡ eqb j 7

@@ -1,0 +1,114 @@
+// The check of a channel list, refusal 2, and the bytes of a record's registers.
+use bits::has_bit;
+use bits::put_bit;
+use rules::Channel;
+use rules::Channels;
+ghost use mathlib.Core.Path.{_≡_};
+ghost use mathlib.Core.Bool.{true, not};
+ghost use Prim.Native.Nat.{_≤_, _<_};
+ghost use lib.ListN.{replicate};
+ghost use Rattle.rules.specs.Image.{pageByte, has, put, MARK};
+ghost use Rattle.rules.specs.Channels.{recordBytes, recordOk, listOk, listOf};
+ghost use Rattle.channels.specs.Seen.{placesOf, seenBit, seenLength, unseen, seeing};
+
+// The bytes of a record's registers.
+pub struct Places {
+    pub idcr: usize,
+    pub ivr: usize,
+    pub dcpr: usize,
+    pub dapr: usize,
+    pub io: usize,
+}
+
+// The byte of a register (240 to 255) of a page.
+pub fn page_byte(page: u8, register: u8) -> usize
+    requires { ⌜ 240 ≤ register ⌝ }
+    ensures { λ i. ⌜ i ≡ pageByte page register ⌝ }
+{
+    240 + 16 * (page as usize) + ((register - 240) as usize)
+}
+
+// The bytes of a record's registers.
+pub fn places_of(c: Channel) -> Places
+    requires { ⌜ recordOk c ≡ true ⌝ }
+    ensures { λ p. ⌜ p ≡ placesOf c ⌝ }
+{
+    Places {
+        idcr: page_byte(c.page, c.idcr),
+        ivr: page_byte(c.page, c.ivr),
+        dcpr: page_byte(c.page, c.dcpr),
+        dapr: page_byte(c.page, c.dapr),
+        io: page_byte(c.page, c.io),
+    }
+}
+
+// Whether a record's numbers are in range. A register number is a byte, so that it is never over 255.
+fn record_ok(c: Channel) -> bool
+    ensures { λ r. ⌜ r ≡ recordOk c ⌝ }
+{
+    ((1 <= c.page) & (c.page <= 63))
+        & (240 <= c.idcr)
+        & (240 <= c.ivr)
+        & (240 <= c.dcpr)
+        & (240 <= c.dapr)
+        & (240 <= c.io)
+        & (c.direction <= 1)
+}
+
+// No byte of the image seen yet: a bit for each byte before the mark.
+fn none_seen() -> [u8; 158]
+    ensures { λ s. ⌜ s ≡ replicate seenLength 0 ⌝ }
+{
+    [0u8; 158]
+}
+
+// Whether the byte is seen for the first time; from now on it has been seen.
+fn see(seen: &mut [u8; 158], byte: usize) -> bool
+    requires { ⌜ byte < MARK ⌝ }
+    ensures { λ b. ⌜ (b ≡ not (has (now (seen .entry)) (seenBit byte))) × (now (seen .exit) ≡ put (now (seen .entry)) (seenBit byte) true) ⌝ }
+{
+    let i = byte / 8;
+    let k = (byte % 8) as u8;
+    let old = seen[i];
+    seen[i] = put_bit(old, k, true);
+    !has_bit(old, k)
+}
+
+// Whether each of a record's five bytes is seen for the first time.
+fn see_record(seen: &mut [u8; 158], c: Channel) -> bool
+    requires { ⌜ recordOk c ≡ true ⌝ }
+    ensures { λ b. ⌜ (b ≡ unseen (now (seen .entry)) (recordBytes c)) × (now (seen .exit) ≡ seeing (now (seen .entry)) (recordBytes c)) ⌝ }
+{
+    let p = places_of(c);
+    let idcr = see(seen, p.idcr);
+    let ivr = see(seen, p.ivr);
+    let dcpr = see(seen, p.dcpr);
+    let dapr = see(seen, p.dapr);
+    let io = see(seen, p.io);
+    idcr & ivr & dcpr & dapr & io
+}
+
+// Whether the list is within the rules: at most twelve records, each in range, and no register of theirs twice. One pass: each register marks
+// its byte, and a byte that is marked already was met before.
+pub fn list_ok(all: Channels) -> bool
+    ensures { λ r. ⌜ r ≡ listOk (listOf all) ⌝ }
+{
+    let count = all.count;
+    if 12 < count {
+        return false;
+    }
+    let items = all.items;
+    let mut seen = none_seen();
+    let mut k: usize = 0;
+    while k < count {
+        let c = items[k];
+        if !record_ok(c) {
+            return false;
+        }
+        if !see_record(&mut seen, c) {
+            return false;
+        }
+        k += 1;
+    }
+    true
+}
