@@ -3,6 +3,7 @@ use bits::has_bit;
 use bits::put_bit;
 use rules::Channel;
 use rules::Channels;
+use rules::MOST_RECORDS;
 ghost use mathlib.Core.Path.{_≡_};
 ghost use mathlib.Core.Bool.{true, not};
 ghost use Prim.Native.Nat.{_≤_, _<_};
@@ -10,6 +11,9 @@ ghost use lib.ListN.{replicate};
 ghost use Rattle.rules.specs.Image.{pageByte, has, put, MARK};
 ghost use Rattle.rules.specs.Channels.{recordBytes, recordOk, listOk, listOf};
 ghost use Rattle.channels.specs.Seen.{placesOf, seenBit, seenLength, unseen, seeing};
+
+// A bit for each byte of the image before the mark.
+const SEEN_LENGTH: usize = 158;
 
 // The bytes of a record's registers.
 pub struct Places {
@@ -55,15 +59,15 @@ fn record_ok(c: Channel) -> bool
         & (c.direction <= 1)
 }
 
-// No byte of the image seen yet: a bit for each byte before the mark.
-fn none_seen() -> [u8; 158]
+// No byte of the image seen yet.
+fn none_seen() -> [u8; SEEN_LENGTH]
     ensures { λ s. ⌜ s ≡ replicate seenLength 0 ⌝ }
 {
-    [0u8; 158]
+    [0u8; SEEN_LENGTH]
 }
 
 // Whether the byte is seen for the first time; from now on it has been seen.
-fn see(seen: &mut [u8; 158], byte: usize) -> bool
+fn see(seen: &mut [u8; SEEN_LENGTH], byte: usize) -> bool
     requires { ⌜ byte < MARK ⌝ }
     ensures { λ b. ⌜ (b ≡ not (has (now (seen .entry)) (seenBit byte))) × (now (seen .exit) ≡ put (now (seen .entry)) (seenBit byte) true) ⌝ }
 {
@@ -75,7 +79,7 @@ fn see(seen: &mut [u8; 158], byte: usize) -> bool
 }
 
 // Whether each of a record's five bytes is seen for the first time.
-fn see_record(seen: &mut [u8; 158], c: Channel) -> bool
+fn see_record(seen: &mut [u8; SEEN_LENGTH], c: Channel) -> bool
     requires { ⌜ recordOk c ≡ true ⌝ }
     ensures { λ b. ⌜ (b ≡ unseen (now (seen .entry)) (recordBytes c)) × (now (seen .exit) ≡ seeing (now (seen .entry)) (recordBytes c)) ⌝ }
 {
@@ -88,13 +92,13 @@ fn see_record(seen: &mut [u8; 158], c: Channel) -> bool
     idcr & ivr & dcpr & dapr & io
 }
 
-// Whether the list is within the rules: at most twelve records, each in range, and no register of theirs twice. One pass: each register marks
-// its byte, and a byte that is marked already was met before.
+// Whether the list is within the rules: at most twelve records, each in range, and no register of theirs twice. One pass over the records, which
+// keeps the bytes seen so far.
 pub fn list_ok(all: Channels) -> bool
     ensures { λ r. ⌜ r ≡ listOk (listOf all) ⌝ }
 {
     let count = all.count;
-    if 12 < count {
+    if MOST_RECORDS < count {
         return false;
     }
     let items = all.items;

@@ -1,4 +1,32 @@
-// The types that every crate of the model shares.
+// The numbers and the types that every crate of the model shares.
+
+// The bytes of an image.
+pub const IMAGE_LENGTH: usize = 1265;
+
+// The most records of a channel list.
+pub const MOST_RECORDS: usize = 12;
+
+// The rows of the register table.
+pub const ROW_COUNT: usize = 22;
+
+// The bytes of the named registers, and of the top-level-in-service mark.
+pub const CICR: usize = 230;
+
+pub const PPR: usize = 234;
+
+pub const EITR: usize = 242;
+
+pub const EIPR: usize = 243;
+
+pub const EIMR: usize = 244;
+
+pub const EIPLR: usize = 245;
+
+pub const EIVR: usize = 246;
+
+pub const NICR: usize = 247;
+
+pub const MARK: usize = 1264;
 
 // A channel record: its page, the registers there of its IDCR, IVR, DCPR, DAPR and data (`io`), and the direction of its transfers
 // (0: peripheral to register file, 1: the reverse).
