@@ -45,7 +45,8 @@ rows-apart j k hj hk d e =
     let back : (k : ℕ) → k < rowCount → rowOf (rowPlace k) ≡ k = same-below rowCount (λ k. rowOf (rowPlace k)) (λ k. k) tt in
     d (sym (back j hj) ∙ ap rowOf e ∙ back k hk)
 
-row-below : (k : ℕ) → k < rowCount → rowPlace k < 248
+-- each before R248 of page 0
+pub row-below : (k : ℕ) → k < rowCount → rowPlace k < 248
 unfolding rowPlace
 row-below k h = ltb-true (rowPlace k) 248 (holds (ltb (rowPlace k) 248) (passes rowCount (λ k. ltb (rowPlace k) 248) tt k h))
 

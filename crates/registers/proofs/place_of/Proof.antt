@@ -1,0 +1,60 @@
+-- The code makes the definition's tests in the same order; a list within the rules has at most twelve records, as `records_place` asks.
+use borrow.Author.Needs.{needs}
+use borrow.Author.Tests.{lt-ltb, le-ltb, lt-leb, le-leb, eq-eqb, ne-eqb}
+use Rattle.rules.specs.Registers.{placeOf}
+use Rattle.rules.proofs.ListLaws.{listOf-count}
+use Rattle.rules.proofs.Twelve.{twelve}
+use Rattle.registers.proofs.place_of.Statement.{statement}
+use Rattle.registers.proofs.place_of.Tie as tie
+
+existing-bits-requires : tie.Need-existing-bits-requires
+existing-bits-requires c κs = search needs
+
+returns : tie.Need-returns
+unfolding placeOf
+returns c = simp (lt-ltb _ _ (c .before .if1 .taken), c .existing-bits .ensures)
+
+returns-2 : tie.Need-returns-2
+unfolding placeOf
+returns-2 c = simp (le-ltb _ _ (c .before .if1 .left), lt-leb _ _ (c .if2 .taken))
+
+cast-r : tie.Need-cast-r
+cast-r c = search needs
+
+shared-slice-read-page : tie.Need-shared-slice-read-page
+shared-slice-read-page c = search needs
+
+page-zero-requires : tie.Need-page-zero-requires
+page-zero-requires c κs = search needs
+
+returns-3 : tie.Need-returns-3
+unfolding placeOf
+returns-3 c =
+    let d = c .before .before .before in
+    simp (le-ltb _ _ (d .before .if1 .left), le-leb _ _ (d .if2 .left), eq-eqb _ _ (c .before .if3 .taken), c .page-zero .ensures)
+
+records-place-requires : tie.Need-records-place-requires
+records-place-requires c κs =
+    let d = c .before .before .before in
+    let s = d .before .before in
+    (listOf-count (s .args .all) (twelve (s .args .all) _ (s .good .1 .0)) (s .pre .1), d .if1 .left)
+
+returns-4 : tie.Need-returns-4
+unfolding placeOf
+returns-4 c =
+    let d = c .before .before .before in
+    simp (le-ltb _ _ (d .before .if1 .left), le-leb _ _ (d .if2 .left), ne-eqb _ _ (c .before .if3 .left), c .records-place .ensures)
+
+pub place-of-spec : {M : Type 1} → statement M
+place-of-spec =
+    tie.close
+    (tie.spec
+    existing-bits-requires
+    returns
+    returns-2
+    cast-r
+    shared-slice-read-page
+    page-zero-requires
+    returns-3
+    records-place-requires
+    returns-4)

@@ -1,0 +1,197 @@
+// The registers: where a register number goes, read, write, reset, and the view of a page.
+mod table;
+
+use channels::page_byte;
+use rules::Answer;
+use rules::Channel;
+use rules::Channels;
+use rules::EIPR;
+use rules::IMAGE_LENGTH;
+use rules::Losses;
+use rules::MARK;
+use rules::NICR;
+use rules::PPR;
+use rules::Place;
+use rules::ROW_COUNT;
+use rules::Refusal;
+use rules::Row;
+use rules::Verdict;
+use table::existing_bits;
+use table::row_at;
+use table::row_place;
+ghost use mathlib.Core.Path.{_≡_};
+ghost use mathlib.Core.Bool.{true};
+ghost use Prim.Native.Nat.{_≤_};
+ghost use lib.ListN.{length};
+ghost use Rattle.rules.specs.Image.{imageLength};
+ghost use Rattle.rules.specs.Channels.{mostRecords, listOk, listOf};
+ghost use Rattle.rules.specs.Outcomes.{change};
+ghost use Rattle.rules.specs.Registers.{pageZero, recordPlace, recordsPlace, placeOf, readOf, storedByte, lostBits, writeOf, resetByte, resetOf, viewVerdict, viewOf};
+
+// Where a register of page 0 goes.
+fn page_zero(register: u8) -> Place
+    ensures { λ p. ⌜ p ≡ pageZero register ⌝ }
+{
+    if register < 242 {
+        return Place::Unmodelled;
+    }
+    if 247 < register {
+        return Place::Unmodelled;
+    }
+    Place::At(page_byte(0, register), existing_bits(register as usize))
+}
+
+// Where a register of a page goes, if it is one of the record's.
+fn record_place(c: Channel, page: u8, register: u8) -> Place
+    requires { ⌜ 240 ≤ register ⌝ }
+    ensures { λ p. ⌜ p ≡ recordPlace c page register ⌝ }
+{
+    if page != c.page {
+        return Place::Unmodelled;
+    }
+    if register == c.idcr {
+        return Place::At(page_byte(page, register), 0x3F);
+    }
+    if (register == c.ivr) | (register == c.dcpr) | (register == c.dapr) | (register == c.io) {
+        return Place::At(page_byte(page, register), 0xFF);
+    }
+    Place::Unmodelled
+}
+
+// Where a register of a page goes, if it is one of any record's.
+fn records_place(all: Channels, page: u8, register: u8) -> Place
+    requires { ⌜ (all .count ≤ mostRecords) × (240 ≤ register) ⌝ }
+    ensures { λ p. ⌜ p ≡ recordsPlace (listOf all) page register ⌝ }
+{
+    let count = all.count;
+    let items = all.items;
+    let mut k: usize = 0;
+    while k < count {
+        let c = items[k];
+        match record_place(c, page, register) {
+            Place::At(i, e) => {
+                return Place::At(i, e);
+            }
+            Place::Unmodelled => {
+                k += 1;
+            }
+        }
+    }
+    Place::Unmodelled
+}
+
+// Where a register number goes, with the page that PPR selects.
+fn place_of(image: &[u8], all: Channels, register: u32) -> Place
+    requires { ⌜ (length (now image) ≡ imageLength) × (listOk (listOf all) ≡ true) ⌝ }
+    ensures { λ p. ⌜ p ≡ placeOf (now (image .entry)) (listOf all) register ⌝ }
+{
+    if register < 240 {
+        let i = register as usize;
+        return Place::At(i, existing_bits(i));
+    }
+    if 255 < register {
+        return Place::Unmodelled;
+    }
+    let r = register as u8;
+    let page = image[PPR] / 4;
+    if page == 0 {
+        return page_zero(r);
+    }
+    records_place(all, page, r)
+}
+
+// Reads a register: the stored byte with absent bits as 0.
+pub fn read(image: &[u8], all: Channels, register: u32) -> Answer
+    requires { ⌜ (length (now image) ≡ imageLength) × (listOk (listOf all) ≡ true) ⌝ }
+    ensures { λ a. ⌜ a ≡ readOf (now (image .entry)) (listOf all) register ⌝ }
+{
+    match place_of(image, all, register) {
+        Place::At(i, e) => Answer::Byte(image[i] & e),
+        Place::Unmodelled => Answer::Refused(Refusal::Register),
+    }
+}
+
+// The byte that a write of `value` over `old` stores: the existing bits and 0 in the absent ones; TLNM can be set and not cleared.
+fn stored_byte(i: usize, existing: u8, old: u8, value: u8) -> u8
+    ensures { λ b. ⌜ b ≡ storedByte i existing old value ⌝ }
+{
+    if i == NICR {
+        return (value & existing) | (old & 0x80);
+    }
+    value & existing
+}
+
+// The EIPR bits that a write takes from 1 to 0.
+fn lost_bits(i: usize, old: u8, new: u8) -> u8
+    ensures { λ b. ⌜ b ≡ lostBits i old new ⌝ }
+{
+    if i == EIPR {
+        return old & !new;
+    }
+    0x00
+}
+
+// Writes a register, and answers the pending bits that were lost.
+pub fn write(image: &mut [u8], all: Channels, register: u32, value: u8) -> Answer
+    requires { ⌜ (length (now image) ≡ imageLength) × (listOk (listOf all) ≡ true) ⌝ }
+    ensures { λ a. ⌜ change a (now (image .exit)) ≡ writeOf (now (image .entry)) (listOf all) register value ⌝ }
+{
+    match place_of(image, all, register) {
+        Place::At(i, e) => {
+            let old = image[i];
+            let new = stored_byte(i, e, old, value);
+            image[i] = new;
+            Answer::Written(Losses {
+                eipr: lost_bits(i, old, new),
+            })
+        }
+        Place::Unmodelled => Answer::Refused(Refusal::Register),
+    }
+}
+
+// A byte with the bits that reset changes replaced.
+fn reset_byte(row: Row, old: u8) -> u8
+    ensures { λ b. ⌜ b ≡ resetByte row old ⌝ }
+{
+    (old & !row.reset) | row.value
+}
+
+// Resets the registers of the table, and clears the mark.
+pub fn reset(image: &mut [u8]) -> Answer
+    requires { ⌜ length (now image) ≡ imageLength ⌝ }
+    ensures { λ a. ⌜ change a (now (image .exit)) ≡ resetOf (now (image .entry)) ⌝ }
+{
+    for k in 0..ROW_COUNT {
+        let i = row_place(k);
+        image[i] = reset_byte(row_at(k), image[i]);
+    }
+    image[MARK] = 0;
+    Answer::Reset
+}
+
+// Whether the view of a page is accepted: refused with 1 for the image's length, then with 3 for the page.
+pub fn view_verdict(image: &[u8], page: u32) -> Verdict
+    ensures { λ v. ⌜ v ≡ viewVerdict (now (image .entry)) page ⌝ }
+{
+    if image.len() != IMAGE_LENGTH {
+        return Verdict::Refused(Refusal::Length);
+    }
+    if 63 < page {
+        return Verdict::Refused(Refusal::Register);
+    }
+    Verdict::Accepted
+}
+
+// The sixteen bytes of a page, as stored: a part of the image, empty where the view is refused.
+pub fn view(image: &[u8], page: u32) -> &[u8]
+    ensures { λ v. ⌜ now v ≡ viewOf (now (image .entry)) page ⌝ }
+{
+    match view_verdict(image, page) {
+        Verdict::Accepted => {
+            let start = 240 + 16 * (page as usize);
+            let end = start + 16;
+            &image[start..end]
+        }
+        Verdict::Refused(_) => &image[..0],
+    }
+}
