@@ -25,7 +25,7 @@ abbrev μ-loop : tie.MeasureT-loop
 returns : tie.Need-returns Inv-loop μ-loop
 returns c =
     let all = c .before .args .all in
-    sym (listOf-long all (twelve all _ (c .before .good .0)) (c .if1 .taken))
+    sym (listOf-long all (twelve all _ (c .before .good .0)) (omega (arith, c .if1 .taken)))
 
 none-seen-requires : tie.Need-none-seen-requires Inv-loop μ-loop
 none-seen-requires c κs = search needs

@@ -1,0 +1,24 @@
+-- The list is within the rules where `list_ok` says so.
+use mathlib.Core.Path.{sym, _∙_}
+use borrow.Author.Needs.{needs}
+use Rattle.register_cases.proofs.reads.answer_of.Statement.{statement}
+use Rattle.register_cases.proofs.reads.answer_of.Tie as tie
+
+list-ok-requires : tie.Need-list-ok-requires
+list-ok-requires c κs = search needs
+
+slice-aggregate-read : tie.Need-slice-aggregate-read
+slice-aggregate-read c = search needs
+
+read-requires : tie.Need-read-requires
+read-requires c κs = let d = c .before .before in (search needs, sym (d .list-ok .ensures) ∙ c .before .if1 .taken)
+
+returns : tie.Need-returns
+returns c = search needs
+
+returns-2 : tie.Need-returns-2
+returns-2 c = search needs
+
+pub answer-of-spec : {M : Type 1} → statement M
+answer-of-spec =
+    tie.close (tie.spec list-ok-requires slice-aggregate-read read-requires returns returns-2)

@@ -1,0 +1,137 @@
+// Answers and changed bytes in words, for the programs that run cases.
+use rules::Answer;
+use rules::Effect;
+use rules::IMAGE_LENGTH;
+use rules::Refusal;
+use rules::Verdict;
+ghost use mathlib.Core.Path.{_≡_};
+ghost use Rattle.rules.specs.Answers.{refusalNumber};
+
+// Writes text to standard output.
+pub fn text(t: &[u8]) {
+    io::write_all(1, t);
+}
+
+// A number in decimal.
+pub fn number(n: u64) {
+    io::print_decimal(1, n);
+}
+
+fn nibble(x: u8) -> u8 {
+    let d = x % 16;
+    if d < 10 {
+        return 48 + d;
+    }
+    55 + d
+}
+
+// A byte in the data sheet's form, as 3Ah.
+pub fn byte(b: u8) {
+    let digits = [nibble(b / 16), nibble(b), 104];
+    io::write_all(1, &digits);
+}
+
+// Document 01's number of a refusal.
+fn refusal_number(r: Refusal) -> u64
+    ensures { λ n. ⌜ n ≡ refusalNumber r ⌝ }
+{
+    match r {
+        Refusal::Length => 1,
+        Refusal::List => 2,
+        Refusal::Register => 3,
+        Refusal::Number => 4,
+        Refusal::Memory => 5,
+        Refusal::Pointer => 6,
+        Refusal::Kind => 7,
+    }
+}
+
+// A refusal by its number.
+pub fn refusal(r: Refusal) {
+    text(b"refused ");
+    number(refusal_number(r));
+}
+
+// Accepted, or the refusal.
+pub fn verdict(v: Verdict) {
+    match v {
+        Verdict::Accepted => text(b"accepted"),
+        Verdict::Refused(r) => refusal(r),
+    }
+}
+
+fn effect(e: Effect) {
+    match e {
+        Effect::NotSelected => text(b"not selected"),
+        Effect::Raised => text(b"raised"),
+        Effect::Merged => text(b"merged"),
+    }
+}
+
+// What a step answers.
+pub fn answer(a: Answer) {
+    match a {
+        Answer::NoStep => text(b"no step"),
+        Answer::Byte(b) => byte(b),
+        Answer::Written(l) => {
+            text(b"lost ");
+            byte(l.eipr);
+        }
+        Answer::Triggered(e, f) => {
+            text(b"maskable bit ");
+            effect(e);
+            text(b", TLIP ");
+            effect(f);
+        }
+        Answer::Nothing => text(b"none"),
+        Answer::TopLevel => text(b"top level, vector 04h"),
+        Answer::Interrupt {
+            source,
+            level,
+            vector,
+        } => {
+            text(b"source ");
+            number(source as u64);
+            text(b", level ");
+            number(level as u64);
+            text(b", vector ");
+            byte(vector);
+        }
+        Answer::Transferred { source, ended } => {
+            text(b"DMA of source ");
+            number(source as u64);
+            if ended {
+                text(b", block ended");
+            }
+        }
+        Answer::Returned => text(b"returned"),
+        Answer::Reset => text(b"reset"),
+        Answer::Refused(r) => refusal(r),
+    }
+}
+
+// One byte that changed.
+fn changed_byte(i: usize, old: u8, new: u8) {
+    text(b"; byte ");
+    number(i as u64);
+    text(b" from ");
+    byte(old);
+    text(b" to ");
+    byte(new);
+}
+
+// Every byte of the image that changed, in order.
+pub fn changes(before: [u8; IMAGE_LENGTH], after: [u8; IMAGE_LENGTH]) {
+    let mut same = true;
+    for i in 0..IMAGE_LENGTH {
+        let old = before[i];
+        let new = after[i];
+        if old != new {
+            changed_byte(i, old, new);
+            same = false;
+        }
+    }
+    if same {
+        text(b"; no byte changed");
+    }
+}
