@@ -60,7 +60,6 @@ pub fn nicr() {
 }
 
 pub fn ppr() {
-    show(b"PPR 00h", filled(0), 234, 0xFF);
     show(b"PPR 03h", with(filled(0), PPR, 0x03), 234, 0x03);
     show(b"FFh", filled(0xFF), 234, 0x27);
 }
@@ -92,25 +91,11 @@ pub fn other_records() {
     show(b"FFh, PPR 04h", first, 255, 0x00);
 }
 
-// R0, R223, and the system registers but PPR.
+// R223, and the system registers.
 pub fn to_ones() {
-    show(b"zeros", filled(0), 0, 0xFF);
-    show(b"zeros", filled(0), 223, 0xFF);
-    show(b"zeros", filled(0), 224, 0xFF);
-    show(b"zeros", filled(0), 225, 0xFF);
-    show(b"zeros", filled(0), 226, 0xFF);
-    show(b"zeros", filled(0), 227, 0xFF);
-    show(b"zeros", filled(0), 228, 0xFF);
-    show(b"zeros", filled(0), 229, 0xFF);
-    show(b"zeros", filled(0), 230, 0xFF);
-    show(b"zeros", filled(0), 231, 0xFF);
-    show(b"zeros", filled(0), 232, 0xFF);
-    show(b"zeros", filled(0), 233, 0xFF);
-    show(b"zeros", filled(0), 235, 0xFF);
-    show(b"zeros", filled(0), 236, 0xFF);
-    show(b"zeros", filled(0), 237, 0xFF);
-    show(b"zeros", filled(0), 238, 0xFF);
-    show(b"zeros", filled(0), 239, 0xFF);
+    for register in 223..240 {
+        show(b"zeros", filled(0), register, 0xFF);
+    }
 }
 
 // CICR, MODER, and the registers of page 0 but EIPR and NICR.

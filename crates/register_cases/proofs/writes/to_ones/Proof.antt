@@ -1,0 +1,50 @@
+-- The loop ends at R239.
+use Prim.Native.Nat.{_≤_, _-_}
+use borrow.Author.Needs.{needs}
+use Rattle.register_cases.proofs.writes.to_ones.Statement.{statement}
+use Rattle.register_cases.proofs.writes.to_ones.Tie as tie
+
+abbrev Inv-loop : tie.InvT-loop
+Inv-loop register₀ t2 register = register ≤ 240
+
+abbrev μ-loop : tie.MeasureT-loop
+μ-loop register₀ t2 register = 240 - register
+
+loop-holds : tie.Need-loop-holds Inv-loop μ-loop
+loop-holds c = search needs
+
+slice-aggregate-show : tie.Need-slice-aggregate-show Inv-loop μ-loop
+slice-aggregate-show c = search needs
+
+filled-requires : tie.Need-filled-requires Inv-loop μ-loop
+filled-requires c κs = search needs
+
+show-requires : tie.Need-show-requires Inv-loop μ-loop
+show-requires c κs = search needs
+
+add-register : tie.Need-add-register Inv-loop μ-loop
+add-register c = search needs
+
+loop-less : tie.Need-loop-less Inv-loop μ-loop
+loop-less c = search needs
+
+loop-again : tie.Need-loop-again Inv-loop μ-loop
+loop-again c = search needs
+
+returns : tie.Need-returns Inv-loop μ-loop
+returns c = search needs
+
+pub to-ones-spec : {M : Type 1} → statement M
+to-ones-spec =
+    tie.close
+    (tie.spec
+    Inv-loop
+    μ-loop
+    loop-holds
+    slice-aggregate-show
+    filled-requires
+    show-requires
+    add-register
+    loop-less
+    loop-again
+    returns)
