@@ -7,16 +7,17 @@ use Prim.Native.Nat.{ℕ, zero, suc, _+_, _/_, _%_, _≤_, _<_}
 use native.Mathlib.Omega.{arith}
 use native.Mathlib.Decide.{ℕ-discrete}
 use lib.Dec.{eqb}
-use lib.ListN.{length, getD, take, drop, replicate, length-replicate}
+use lib.ListN.{length, getD, replicate, length-replicate}
 use borrow.Author.Tests.{eq-eqb, ne-eqb, le-leb}
 use Rattle.bits.proofs.BitLaws.{bit-zero}
 use Rattle.rules.specs.declared.Channel.{Channel}
+use Rattle.rules.specs.declared.Channels.{Channels}
 use Rattle.rules.specs.Image.{has, put, MARK}
 use Rattle.rules.specs.Channels.{mostRecords, noChannel, recordBytes, recordOk, recordsOk, member, distinct, allBytes, listOk}
 use Rattle.rules.proofs.Bools.{and-l, and-r}
 use Rattle.rules.proofs.ImageLaws.{Apart, put-length, has-put-same, has-put-other}
 use Rattle.rules.proofs.ChannelLaws.{registerByte, record-range}
-use Rattle.channels.proofs.RestLaws.{rest-cons, rest-none}
+use Rattle.channels.proofs.RestLaws.{rest, rest-cons, rest-none}
 use Rattle.channels.specs.declared.Places.{Places}
 use Rattle.channels.specs.Seen.{placesOf, seenBit, seenLength, unseen, seeing}
 
@@ -154,14 +155,15 @@ left-cons s c cs =
     ∙ swap (recordOk c) (recordsOk cs) (unseen s (recordBytes c)) (unseen (seeing s (recordBytes c)) (allBytes cs))
 
 -- a turn of the loop: a says whether record k is in range, b whether its bytes are met for the first time, t is the set after it
-pub left-turn : (s t : List ℕ) (items : List Channel) (n k : ℕ) (a b : Bool) → n ≤ length items → k < n → a ≡ recordOk (getD items k noChannel)
-    → (b ≡ unseen s (recordBytes (getD items k noChannel))) × (t ≡ seeing s (recordBytes (getD items k noChannel)))
-    → Left s (drop k (take n items)) ≡ (a && (b && Left t (drop (k + 1) (take n items))))
-left-turn s t items n k a b fits h ranged seen =
-    ap (Left s) (rest-cons items n fits k noChannel h) ∙ left-cons s (getD items k noChannel) (drop (k + 1) (take n items))
-    ∙ rw (ranged, seen .0, seen .1)
+module _ (all : Channels) (full : length (all .items) ≡ mostRecords) (short : all .count ≤ mostRecords) where
+  pub left-turn : (s t : List ℕ) (k : ℕ) (a b : Bool) → k < all .count → a ≡ recordOk (getD (all .items) k noChannel)
+      → (b ≡ unseen s (recordBytes (getD (all .items) k noChannel))) × (t ≡ seeing s (recordBytes (getD (all .items) k noChannel)))
+      → Left s (rest all k) ≡ (a && (b && Left t (rest all (k + 1))))
+  left-turn s t k a b h ranged seen =
+      ap (Left s) (rest-cons all full short k h) ∙ left-cons s (getD (all .items) k noChannel) (rest all (k + 1))
+      ∙ rw (ranged, seen .0, seen .1)
 
--- at the end nothing is left
-pub left-none : (s : List ℕ) (items : List Channel) (n : ℕ) → n ≤ length items → Left s (drop n (take n items)) ≡ true
-unfolding recordsOk allBytes unseen
-left-none s items n fits = rw (rest-none items n fits)
+  -- at the end nothing is left
+  pub left-none : (s : List ℕ) → Left s (rest all (all .count)) ≡ true
+  unfolding recordsOk allBytes unseen
+  left-none s = rw (rest-none all full short)

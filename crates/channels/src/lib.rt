@@ -97,15 +97,13 @@ fn see_record(seen: &mut [u8; SEEN_LENGTH], c: Channel) -> bool
 pub fn list_ok(all: Channels) -> bool
     ensures { λ r. ⌜ r ≡ listOk (listOf all) ⌝ }
 {
-    let count = all.count;
-    if MOST_RECORDS < count {
+    if MOST_RECORDS < all.count {
         return false;
     }
-    let items = all.items;
     let mut seen = none_seen();
     let mut k: usize = 0;
-    while k < count {
-        let c = items[k];
+    while k < all.count {
+        let c = all.items[k];
         if !record_ok(c) {
             return false;
         }

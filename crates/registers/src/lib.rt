@@ -14,10 +14,10 @@ use rules::PPR;
 use rules::Place;
 use rules::ROW_COUNT;
 use rules::Refusal;
-use rules::Row;
 use rules::Verdict;
 use table::existing_bits;
-use table::row_at;
+use table::reset_bytes;
+use table::reset_masks;
 use table::row_place;
 ghost use mathlib.Core.Path.{_≡_};
 ghost use mathlib.Core.Bool.{true};
@@ -26,7 +26,7 @@ ghost use lib.ListN.{length};
 ghost use Rattle.rules.specs.Image.{imageLength};
 ghost use Rattle.rules.specs.Channels.{mostRecords, listOk, listOf};
 ghost use Rattle.rules.specs.Outcomes.{change};
-ghost use Rattle.rules.specs.Registers.{pageZero, recordPlace, recordsPlace, placeOf, readOf, storedByte, lostBits, writeOf, resetByte, resetOf, viewVerdict, viewOf};
+ghost use Rattle.rules.specs.Registers.{pageZero, recordPlace, recordsPlace, placeOf, readOf, storedByte, lostBits, writeOf, resetOf, viewVerdict, viewOf};
 
 // Where a register of page 0 goes.
 fn page_zero(register: u8) -> Place
@@ -63,11 +63,9 @@ fn records_place(all: Channels, page: u8, register: u8) -> Place
     requires { ⌜ (all .count ≤ mostRecords) × (240 ≤ register) ⌝ }
     ensures { λ p. ⌜ p ≡ recordsPlace (listOf all) page register ⌝ }
 {
-    let count = all.count;
-    let items = all.items;
     let mut k: usize = 0;
-    while k < count {
-        let c = items[k];
+    while k < all.count {
+        let c = all.items[k];
         match record_place(c, page, register) {
             Place::At(i, e) => {
                 return Place::At(i, e);
@@ -149,21 +147,16 @@ pub fn write(image: &mut [u8], all: Channels, register: u32, value: u8) -> Answe
     }
 }
 
-// A byte with the bits that reset changes replaced.
-fn reset_byte(row: Row, old: u8) -> u8
-    ensures { λ b. ⌜ b ≡ resetByte row old ⌝ }
-{
-    (old & !row.reset) | row.value
-}
-
 // Resets the registers of the table, and clears the mark.
 pub fn reset(image: &mut [u8]) -> Answer
     requires { ⌜ length (now image) ≡ imageLength ⌝ }
     ensures { λ a. ⌜ change a (now (image .exit)) ≡ resetOf (now (image .entry)) ⌝ }
 {
+    let masks = reset_masks();
+    let bytes = reset_bytes();
     for k in 0..ROW_COUNT {
         let i = row_place(k);
-        image[i] = reset_byte(row_at(k), image[i]);
+        image[i] = (image[i] & !masks[k]) | bytes[k];
     }
     image[MARK] = 0;
     Answer::Reset

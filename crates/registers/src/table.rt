@@ -1,97 +1,96 @@
-// The table of twenty-two rows: the system registers R224 to R239, then R242 to R247 of page 0. Read, write and reset go by it.
+// The table of twenty-two rows, a constant for each column: the system registers R224 to R239, then R242 to R247 of page 0. Read, write and reset go
+// by it. Columns of bytes, and not an array of structs, so that the compiler keeps them as constant data.
 use rules::ROW_COUNT;
-use rules::Row;
 ghost use mathlib.Core.Path.{_≡_};
+ghost use mathlib.Core.List.{map};
 ghost use Prim.Native.Nat.{_<_};
 ghost use lib.ListN.{getD};
-ghost use Rattle.rules.specs.Table.{noRow, rows, rowCount, rowPlace, existingBits};
+ghost use Rattle.rules.specs.Table.{Row, noRow, rows, rowCount, rowPlace, existingBits};
 
-// All eight bits, kept at reset.
-const PLAIN: Row = Row {
-    existing: 0xFF,
-    reset: 0x00,
-    value: 0x00,
-};
-
-// All eight bits, cleared at reset.
-const CLEARED: Row = Row {
-    existing: 0xFF,
-    reset: 0xFF,
-    value: 0x00,
-};
-
-const CICR_ROW: Row = Row {
-    existing: 0xFF,
-    reset: 0xFF,
-    value: 0x87,
-};
-
-const PPR_ROW: Row = Row {
-    existing: 0xFC,
-    reset: 0x00,
-    value: 0x00,
-};
-
-const MODER_ROW: Row = Row {
-    existing: 0xFF,
-    reset: 0xFF,
-    value: 0xE0,
-};
-
-const EIPLR_ROW: Row = Row {
-    existing: 0xFF,
-    reset: 0xFF,
-    value: 0xFF,
-};
-
-const EIVR_ROW: Row = Row {
-    existing: 0xFF,
-    reset: 0x0F,
-    value: 0x06,
-};
-
-const ROWS: [Row; ROW_COUNT] = [
-    PLAIN,
-    PLAIN,
-    PLAIN,
-    PLAIN,
-    PLAIN,
-    PLAIN, // R224 to R229
-    CICR_ROW, // R230
-    PLAIN,
-    PLAIN,
-    PLAIN, // R231 to R233
-    PPR_ROW, // R234
-    MODER_ROW, // R235
-    PLAIN,
-    PLAIN,
-    PLAIN,
-    PLAIN, // R236 to R239
-    CLEARED, // R242 EITR
-    CLEARED, // R243 EIPR
-    CLEARED, // R244 EIMR
-    EIPLR_ROW, // R245
-    EIVR_ROW, // R246
-    CLEARED, // R247 NICR
+// The bits that exist: all but PPR's bits 1:0.
+const EXISTING: [u8; ROW_COUNT] = [
+    0xFF, // R224
+    0xFF,
+    0xFF,
+    0xFF,
+    0xFF,
+    0xFF,
+    0xFF, // R230 CICR
+    0xFF,
+    0xFF,
+    0xFF,
+    0xFC, // R234 PPR
+    0xFF, // R235 MODER
+    0xFF,
+    0xFF,
+    0xFF,
+    0xFF, // R239
+    0xFF, // R242 EITR
+    0xFF, // R243 EIPR
+    0xFF, // R244 EIMR
+    0xFF, // R245 EIPLR
+    0xFF, // R246 EIVR
+    0xFF, // R247 NICR
 ];
 
-// Row k of the table.
-pub fn row_at(k: usize) -> Row
-    requires { ⌜ k < rowCount ⌝ }
-    ensures { λ r. ⌜ r ≡ getD rows k noRow ⌝ }
-{
-    ROWS[k]
-}
+// The bits that reset changes: all of CICR, MODER, EITR, EIPR, EIMR, EIPLR and NICR, and the low half of EIVR.
+const RESET_MASKS: [u8; ROW_COUNT] = [
+    0x00, // R224
+    0x00,
+    0x00,
+    0x00,
+    0x00,
+    0x00,
+    0xFF, // R230 CICR
+    0x00,
+    0x00,
+    0x00,
+    0x00, // R234 PPR
+    0xFF, // R235 MODER
+    0x00,
+    0x00,
+    0x00,
+    0x00, // R239
+    0xFF, // R242 EITR
+    0xFF, // R243 EIPR
+    0xFF, // R244 EIMR
+    0xFF, // R245 EIPLR
+    0x0F, // R246 EIVR
+    0xFF, // R247 NICR
+];
 
-// The byte of row k.
-pub fn row_place(k: usize) -> usize
+// What it makes of them.
+const RESET_BYTES: [u8; ROW_COUNT] = [
+    0x00, // R224
+    0x00,
+    0x00,
+    0x00,
+    0x00,
+    0x00,
+    0x87, // R230 CICR
+    0x00,
+    0x00,
+    0x00,
+    0x00, // R234 PPR
+    0xE0, // R235 MODER
+    0x00,
+    0x00,
+    0x00,
+    0x00, // R239
+    0x00, // R242 EITR
+    0x00, // R243 EIPR
+    0x00, // R244 EIMR
+    0xFF, // R245 EIPLR
+    0x06, // R246 EIVR
+    0x00, // R247 NICR
+];
+
+// The bits that exist of row k.
+fn existing_at(k: usize) -> u8
     requires { ⌜ k < rowCount ⌝ }
-    ensures { λ i. ⌜ i ≡ rowPlace k ⌝ }
+    ensures { λ e. ⌜ e ≡ getD rows k noRow .existing ⌝ }
 {
-    if k < 16 {
-        return 224 + k;
-    }
-    226 + k
+    EXISTING[k]
 }
 
 // The bits that exist of R0 to R239 and of R242 to R247 of page 0.
@@ -103,9 +102,32 @@ pub fn existing_bits(register: usize) -> u8
         return 0xFF;
     }
     if register < 240 {
-        let row = row_at(register - 224);
-        return row.existing;
+        return existing_at(register - 224);
     }
-    let row = row_at(register - 226);
-    row.existing
+    existing_at(register - 226)
+}
+
+// The bits that reset changes, of every row.
+pub fn reset_masks() -> [u8; ROW_COUNT]
+    ensures { λ m. ⌜ m ≡ map (λ (w : Row). w .reset) rows ⌝ }
+{
+    RESET_MASKS
+}
+
+// What reset makes of them, of every row.
+pub fn reset_bytes() -> [u8; ROW_COUNT]
+    ensures { λ b. ⌜ b ≡ map (λ (w : Row). w .value) rows ⌝ }
+{
+    RESET_BYTES
+}
+
+// The byte of row k.
+pub fn row_place(k: usize) -> usize
+    requires { ⌜ k < rowCount ⌝ }
+    ensures { λ i. ⌜ i ≡ rowPlace k ⌝ }
+{
+    if k < 16 {
+        return 224 + k;
+    }
+    226 + k
 }

@@ -13,11 +13,10 @@ use borrow.Author.Tests.{ne-eqb, eqb-true, ltb-true, lt-leb}
 use Rattle.bits.specs.Bits.{digit, bit}
 use Rattle.bits.proofs.BitLaws.{bit-and, bit-or, bit-not, and-byte}
 use Rattle.bits.proofs.Tests.{passes, passes₂, same-below, holds}
-use Rattle.rules.specs.declared.Row.{Row}
 use Rattle.rules.specs.declared.Answer.the-variants as answer
 use Rattle.rules.specs.Image.{Image, imageLength, at, CICR, MODER, EITR, EIPR, EIMR, EIPLR, EIVR, NICR, MARK}
 use Rattle.rules.specs.Channels.{between}
-use Rattle.rules.specs.Table.{noRow, rows, rowCount, rowPlace}
+use Rattle.rules.specs.Table.{Row, noRow, rows, rowCount, rowPlace}
 use Rattle.rules.specs.Outcomes.{change}
 use Rattle.rules.specs.Registers.{resetByte, resetRow, resetRows, resetOf}
 use Rattle.rules.proofs.Bools.{and-l, and-r, or-cases}

@@ -7,7 +7,6 @@ use lib.Dec.{eqb, ltb, leb}
 use lib.Bits.{bitAnd, bitOr}
 use lib.ListN.{length, getD, set, take, drop}
 use Rattle.rules.specs.declared.Channel.{Channel}
-use Rattle.rules.specs.declared.Row.{Row}
 use Rattle.rules.specs.declared.Place.{Place}
 use Rattle.rules.specs.declared.Place.the-variants.{At, Unmodelled}
 use Rattle.rules.specs.declared.Losses.{Losses}
@@ -17,7 +16,7 @@ use Rattle.rules.specs.declared.Refusal.the-variants as refusal
 use Rattle.rules.specs.declared.Verdict.{Verdict}
 use Rattle.rules.specs.declared.Verdict.the-variants as verdict
 use Rattle.rules.specs.Image.{Image, imageLength, at, pageByte, PPR, EIPR, NICR, MARK}
-use Rattle.rules.specs.Table.{noRow, rows, rowCount, rowPlace, existingBits}
+use Rattle.rules.specs.Table.{Row, noRow, rows, rowCount, rowPlace, existingBits}
 use Rattle.rules.specs.Channels.{between}
 use Rattle.rules.specs.Outcomes.{Change, change, refuse}
 

@@ -5,9 +5,13 @@ use mathlib.Core.List.{List, [], _∷_}
 use Prim.Native.Nat.{ℕ, _+_, _-_}
 use lib.Dec.{ltb}
 use lib.ListN.{getD}
-use Rattle.rules.specs.declared.Row.{Row}
 
--- the bits that exist, the bits that reset changes, and what it makes of them
+-- a row: the bits that exist, the bits that reset changes, and what it makes of them
+pub record Row : Type 0 where
+  pub existing : ℕ
+  pub reset : ℕ
+  pub value : ℕ
+
 abbrev pub row : ℕ → ℕ → ℕ → Row
 row e k v = record { existing = e; reset = k; value = v }
 

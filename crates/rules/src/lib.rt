@@ -48,13 +48,6 @@ pub struct Channels {
     pub count: usize,
 }
 
-// A row of the register table: the bits that exist, the bits that reset changes, and what it makes of them.
-pub struct Row {
-    pub existing: u8,
-    pub reset: u8,
-    pub value: u8,
-}
-
 // Where a register number goes: a byte of the image with the bits that exist there, or nowhere.
 pub enum Place {
     At(usize, u8),

@@ -1,30 +1,30 @@
--- The invariant: the whole list is within the rules exactly if what is left of it is, with the bytes seen so far.
+-- The invariant: the list is within the rules exactly if what is left of it is, with the bytes seen so far.
 use mathlib.Core.Bool.{true, false}
 use mathlib.Core.Path.{_≡_, _∙_, sym, ap, refl}
+use mathlib.Core.List.{List}
 use Prim.Native.Nat.{ℕ, _≤_, _-_}
 use native.Mathlib.Omega.{arith}
-use mathlib.Core.List.{List}
-use lib.ListN.{length, take, drop}
-use lib.Seq.{length-take-le}
+use lib.ListN.{length}
 use borrow.Author.Needs.{needs}
 use borrow.Author.Tests.{not-true, not-false}
-use Rattle.rules.specs.Channels.{mostRecords, listOk}
-use Rattle.rules.proofs.ListLaws.{listOf-take, listOf-long}
+use Rattle.rules.specs.Channels.{mostRecords, listOk, listOf}
+use Rattle.rules.proofs.ListLaws.{listOf-length, listOf-long}
 use Rattle.rules.proofs.Twelve.{twelve}
+use Rattle.channels.proofs.RestLaws.{rest}
 use Rattle.channels.proofs.SeenLaws.{Left, left-all, left-turn, left-none}
 use Rattle.channels.proofs.list_ok.Statement.{statement}
 use Rattle.channels.proofs.list_ok.Tie as tie
 
 abbrev Inv-loop : tie.InvT-loop
-Inv-loop count items seen₀ k₀ seen k =
-    (k ≤ count) × (count ≤ mostRecords) × (count ≤ length items) × (listOk (take count items) ≡ Left seen (drop k (take count items)))
+Inv-loop all seen₀ k₀ seen k =
+    (k ≤ all .count) × (all .count ≤ mostRecords) × (length (all .items) ≡ mostRecords) × (listOk (listOf all) ≡ Left seen (rest all k))
 
 abbrev μ-loop : tie.MeasureT-loop
-μ-loop count items seen₀ k₀ seen k = count - k
+μ-loop all seen₀ k₀ seen k = all .count - k
 
 returns : tie.Need-returns Inv-loop μ-loop
 returns c =
-    let all = c .before .args .all in
+    let all = c .before .args .t1 in
     sym (listOf-long all (twelve all _ (c .before .good .0)) (omega (arith, c .if1 .taken)))
 
 none-seen-requires : tie.Need-none-seen-requires Inv-loop μ-loop
@@ -32,23 +32,21 @@ none-seen-requires c κs = search needs
 
 loop-holds : tie.Need-loop-holds Inv-loop μ-loop
 loop-holds c =
-    let d = c .before .before .before in
-    let items = d .args .all .items in
-    let count = d .args .all .count in
-    let full = twelve (d .args .all) _ (d .good .0) in
-    let fits : count ≤ length items = omega arith in (
+    let d = c .before .before in
+    let all = d .args .t1 in
+    let full = twelve all _ (d .good .0) in
+    let short : all .count ≤ mostRecords = omega (arith, c .before .if1 .left) in (
       search needs,
-      search needs,
-      fits,
-      left-all (take count items) (omega (arith, length-take-le count items fits))
-          ∙ ap (λ (s : List ℕ). Left s (take count items)) (sym (c .none-seen .ensures)),
+      short,
+      full,
+      left-all (listOf all) (omega (arith, listOf-length all full short)) ∙ ap (λ (s : List ℕ). Left s (listOf all)) (sym (c .none-seen .ensures)),
     )
 
 mul-c : tie.Need-mul-c Inv-loop μ-loop
 mul-c c = search needs
 
-array-copy-out-c : tie.Need-array-copy-out-c Inv-loop μ-loop
-array-copy-out-c c = search needs
+element-copy-out-c : tie.Need-element-copy-out-c Inv-loop μ-loop
+element-copy-out-c c = search needs
 
 record-ok-requires : tie.Need-record-ok-requires Inv-loop μ-loop
 record-ok-requires c κs = search needs
@@ -56,8 +54,8 @@ record-ok-requires c κs = search needs
 returns-2 : tie.Need-returns-2 Inv-loop μ-loop
 returns-2 c =
     let d = c .before .before .before .before in
-    sym (ap listOk (listOf-take (d .before .before .before .before .args .all) (d .loop .inv .1)) ∙ d .loop .inv .3
-    ∙ left-turn _ _ _ _ _ false _ (d .loop .inv .2) (c .before .before .before .loop-test .taken)
+    sym (d .loop .inv .3
+    ∙ left-turn _ (d .loop .inv .2) (d .loop .inv .1) _ _ _ false _ (c .before .before .before .loop-test .taken)
     (sym (not-true _ (c .if2 .taken)) ∙ c .before .record-ok .ensures) (refl, refl))
 
 see-record-requires : tie.Need-see-record-requires Inv-loop μ-loop
@@ -67,8 +65,8 @@ returns-3 : tie.Need-returns-3 Inv-loop μ-loop
 returns-3 c =
     let r = c .before .before .before .before in
     let d = r .before .before .before in
-    sym (ap listOk (listOf-take (d .before .before .before .before .args .all) (d .loop .inv .1)) ∙ d .loop .inv .3
-    ∙ left-turn _ _ _ _ _ true false (d .loop .inv .2) (r .before .before .loop-test .taken)
+    sym (d .loop .inv .3
+    ∙ left-turn _ (d .loop .inv .2) (d .loop .inv .1) _ _ _ true false (r .before .before .loop-test .taken)
     (sym (not-false _ (c .before .before .before .if2 .left)) ∙ r .record-ok .ensures)
     (sym (not-true _ (c .if3 .taken)) ∙ c .before .see-record .ensures .0, c .before .see-record .ensures .1))
 
@@ -86,7 +84,7 @@ loop-again c =
       d .loop .inv .1,
       d .loop .inv .2,
       d .loop .inv .3
-          ∙ left-turn _ _ _ _ _ true true (d .loop .inv .2) (r .before .before .loop-test .taken)
+          ∙ left-turn _ (d .loop .inv .2) (d .loop .inv .1) _ _ _ true true (r .before .before .loop-test .taken)
           (sym (not-false _ (c .before .before .before .if2 .left)) ∙ r .record-ok .ensures)
           (sym (not-false _ (c .if3 .left)) ∙ c .before .see-record .ensures .0, c .before .see-record .ensures .1),
     )
@@ -94,11 +92,9 @@ loop-again c =
 returns-4 : tie.Need-returns-4 Inv-loop μ-loop
 returns-4 c =
     let d = c .before in
-    let all = d .before .before .before .before .args .all in
+    let all = d .before .before .before .args .t1 in
     let e : d .loop .k ≡ all .count = omega arith in
-    sym (ap listOk (listOf-take all (d .loop .inv .1)) ∙ d .loop .inv .3
-    ∙ ap (λ (k : ℕ). Left (d .loop .seen) (drop k (take (all .count) (all .items)))) e
-    ∙ left-none (d .loop .seen) (all .items) (all .count) (d .loop .inv .2))
+    sym (d .loop .inv .3 ∙ ap (λ (k : ℕ). Left (d .loop .seen) (rest all k)) e ∙ left-none all (d .loop .inv .2) (d .loop .inv .1) (d .loop .seen))
 
 pub list-ok-spec : {M : Type 1} → statement M
 list-ok-spec =
@@ -110,7 +106,7 @@ list-ok-spec =
     none-seen-requires
     loop-holds
     mul-c
-    array-copy-out-c
+    element-copy-out-c
     record-ok-requires
     returns-2
     see-record-requires

@@ -3,41 +3,42 @@ use mathlib.Core.Path.{_≡_, refl, sym, ap, _∙_}
 use mathlib.Core.List.{List}
 use Prim.Native.Nat.{ℕ, _+_, _-_, _≤_, _<_}
 use native.Mathlib.Omega.{arith}
-use lib.ListN.{length, getD, take, drop}
+use lib.ListN.{length, getD}
 use borrow.Author.Needs.{needs}
 use Rattle.rules.specs.declared.Channel.{Channel}
+use Rattle.rules.specs.declared.Channels.{Channels}
 use Rattle.rules.specs.declared.Place.{Place}
 use Rattle.rules.specs.declared.Place.the-variants.{At, Unmodelled}
-use Rattle.rules.specs.Channels.{mostRecords, noChannel}
+use Rattle.rules.specs.Channels.{mostRecords, noChannel, listOf}
 use Rattle.rules.specs.Registers.{recordPlace, orPlace, recordsPlace}
-use Rattle.rules.proofs.ListLaws.{listOf-take}
 use Rattle.rules.proofs.Twelve.{twelve}
-use Rattle.channels.proofs.RestLaws.{rest-cons, rest-none}
+use Rattle.channels.proofs.RestLaws.{rest, rest-cons, rest-none}
 use Rattle.registers.proofs.records_place.Statement.{statement}
 use Rattle.registers.proofs.records_place.Tie as tie
 
 -- a turn: record k first, then those after it
-turn : (items : List Channel) (n k page register : ℕ) (p : Place) → n ≤ length items → k < n → p ≡ recordPlace (getD items k noChannel) page register
-    → recordsPlace (drop k (take n items)) page register ≡ orPlace p (recordsPlace (drop (k + 1) (take n items)) page register)
+turn : (all : Channels) (k page register : ℕ) (p : Place) → length (all .items) ≡ mostRecords → all .count ≤ mostRecords → k < all .count
+    → p ≡ recordPlace (getD (all .items) k noChannel) page register
+    → recordsPlace (rest all k) page register ≡ orPlace p (recordsPlace (rest all (k + 1)) page register)
 unfolding recordsPlace
-turn items n k page register p fits h e = rw (rest-cons items n fits k noChannel h, e)
+turn all k page register p full short h e = rw (rest-cons all full short k h, e)
 
 abbrev Inv-loop : tie.InvT-loop
-Inv-loop page register count items k₀ k =
-    (k ≤ count) × (count ≤ mostRecords) × (length items ≡ mostRecords)
-    × (recordsPlace (take count items) page register ≡ recordsPlace (drop k (take count items)) page register)
+Inv-loop page register all k₀ k =
+    (k ≤ all .count) × (all .count ≤ mostRecords) × (length (all .items) ≡ mostRecords)
+    × (recordsPlace (listOf all) page register ≡ recordsPlace (rest all k) page register)
 
 abbrev μ-loop : tie.MeasureT-loop
-μ-loop page register count items k₀ k = count - k
+μ-loop page register all k₀ k = all .count - k
 
 loop-holds : tie.Need-loop-holds Inv-loop μ-loop
-loop-holds c = (search needs, search needs, twelve (c .before .args .all) _ (c .before .good .0), refl)
+loop-holds c = (search needs, search needs, twelve (c .args .t1) _ (c .good .0), refl)
 
 mul-c : tie.Need-mul-c Inv-loop μ-loop
 mul-c c = search needs
 
-array-copy-out-c : tie.Need-array-copy-out-c Inv-loop μ-loop
-array-copy-out-c c = search needs
+element-copy-out-c : tie.Need-element-copy-out-c Inv-loop μ-loop
+element-copy-out-c c = search needs
 
 record-place-requires : tie.Need-record-place-requires Inv-loop μ-loop
 record-place-requires c κs = search needs
@@ -48,11 +49,9 @@ enum-known-i c = search needs
 returns : tie.Need-returns Inv-loop μ-loop
 returns c =
     let d = c .before .before .before .before .before .before in
-    let all = d .before .before .args .all in
-    rw (listOf-take all (d .loop .inv .1))
-    (sym (d .loop .inv .3
-    ∙ turn _ _ _ _ _ (At _ _) (omega arith) (c .before .before .before .before .before .loop-test .taken)
-    (sym (c .before .i .given .1) ∙ c .before .before .before .record-place .ensures)))
+    sym (d .loop .inv .3
+    ∙ turn _ _ _ _ (At _ _) (d .loop .inv .2) (d .loop .inv .1) (c .before .before .before .before .before .loop-test .taken)
+    (sym (c .before .i .given .1) ∙ c .before .before .before .record-place .ensures))
 
 enum-told : tie.Need-enum-told Inv-loop μ-loop
 enum-told c = search needs
@@ -70,7 +69,7 @@ loop-again c =
       d .loop .inv .1,
       d .loop .inv .2,
       d .loop .inv .3
-          ∙ turn _ _ _ _ _ Unmodelled (omega arith) (c .before .before .before .before .loop-test .taken)
+          ∙ turn _ _ _ _ Unmodelled (d .loop .inv .2) (d .loop .inv .1) (c .before .before .before .before .loop-test .taken)
           (sym (c .enum-told .given .1) ∙ c .before .before .record-place .ensures),
     )
 
@@ -78,12 +77,11 @@ returns-2 : tie.Need-returns-2 Inv-loop μ-loop
 unfolding recordsPlace
 returns-2 c =
     let d = c .before in
-    let a = d .before .before .args in
-    let n = a .all .count in
-    let e : d .loop .k ≡ n = omega arith in
-    rw (listOf-take (a .all) (d .loop .inv .1))
-    (sym (d .loop .inv .3 ∙ ap (λ (k : ℕ). recordsPlace (drop k (take n (a .all .items))) (a .page) (a .register)) e
-    ∙ ap (λ (cs : List Channel). recordsPlace cs (a .page) (a .register)) (rest-none (a .all .items) n (omega arith))))
+    let a = d .before .args in
+    let all = a .t1 in
+    let e : d .loop .k ≡ all .count = omega arith in
+    sym (d .loop .inv .3 ∙ ap (λ (k : ℕ). recordsPlace (rest all k) (a .page) (a .register)) e
+    ∙ ap (λ (cs : List Channel). recordsPlace cs (a .page) (a .register)) (rest-none all (d .loop .inv .2) (d .loop .inv .1)))
 
 pub records-place-spec : {M : Type 1} → statement M
 records-place-spec =
@@ -93,7 +91,7 @@ records-place-spec =
     μ-loop
     loop-holds
     mul-c
-    array-copy-out-c
+    element-copy-out-c
     record-place-requires
     enum-known-i
     returns
