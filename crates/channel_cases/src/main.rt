@@ -71,6 +71,10 @@ fn registers() {
     show(b"DAPR 239", one(channel(9, 240, 241, 242, 239, 244)));
     show(b"data 239", one(channel(9, 240, 241, 242, 243, 239)));
     show(b"data 0", one(channel(9, 240, 241, 242, 243, 0)));
+    show(b"IVR 240", one(channel(9, 241, 240, 242, 243, 244)));
+    show(b"DCPR 240", one(channel(9, 242, 241, 240, 243, 244)));
+    show(b"DAPR 240", one(channel(9, 243, 241, 242, 240, 244)));
+    show(b"data 240", one(channel(9, 244, 241, 242, 243, 240)));
     show(
         b"R255 down to R251",
         one(channel(9, 255, 254, 253, 252, 251)),
