@@ -80,6 +80,10 @@ fn registers() {
         one(channel(9, 255, 254, 253, 252, 251)),
     );
     show(
+        b"the second of three with DAPR 239",
+        second(channel(11, 240, 241, 242, 239, 244)),
+    );
+    show(
         b"the twelfth with data 239",
         twelve(channel(12, 240, 241, 242, 243, 239), 12),
     );
