@@ -38,8 +38,8 @@ fn main() {
     writes::eipr();
     writes::nicr();
     writes::ppr();
-    writes::record_registers();
-    writes::other_records();
+    writes::two_records();
+    writes::one_record();
     writes::to_ones();
     writes::to_zeros();
     writes::page_zero_to_ones();

@@ -1,6 +1,5 @@
-// Cases of write and reset, each a line: the image at the start, the step, the answer and every byte that it changed. At the start every byte is 00h,
-// or the byte that the line names, but for the registers that it names. The list of a write is `records`. Page 1 stands at bytes 256 to 271, page 9 at
-// 384 to 399, page 63 at 1248 to 1263.
+// Cases of write and reset, each a line: the image at the start, the step, the answer and every byte that it changed. The list of a write is
+// `records`. Page 1 stands at bytes 256 to 271, page 9 at 384 to 399, page 63 at 1248 to 1263.
 use crate::records;
 use report::text;
 use rules::Answer;
@@ -23,8 +22,7 @@ fn answer_of(image: &mut [u8; IMAGE_LENGTH], all: Channels, register: u32, value
     Answer::Refused(Refusal::List)
 }
 
-fn show(start: &[u8], image: [u8; IMAGE_LENGTH], register: u32, value: u8) {
-    text(start);
+fn show(image: [u8; IMAGE_LENGTH], register: u32, value: u8) {
     text(b", write ");
     report::byte(value);
     text(b" to R");
@@ -36,100 +34,104 @@ fn show(start: &[u8], image: [u8; IMAGE_LENGTH], register: u32, value: u8) {
     text(b"\n");
 }
 
+// From an image of `fill` throughout, but `b` at one byte.
+fn write(fill: u8, at: usize, b: u8, register: u32, value: u8) {
+    text(b"all ");
+    report::byte(fill);
+    text(b", byte ");
+    report::number(at as u64);
+    text(b" ");
+    report::byte(b);
+    show(with(filled(fill), at, b), register, value);
+}
+
 pub fn eipr() {
-    show(b"EIPR 03h", with(filled(0), EIPR, 0x03), 243, 0x01);
-    show(b"EIPR 01h", with(filled(0), EIPR, 0x01), 243, 0x03);
-    show(b"EIPR FFh", with(filled(0), EIPR, 0xFF), 243, 0x00);
-    show(b"EIPR A5h", with(filled(0), EIPR, 0xA5), 243, 0xA5);
-    show(b"EIPR F0h", with(filled(0), EIPR, 0xF0), 243, 0x3C);
-    show(
-        b"EIPR 03h, PPR 03h",
-        with(with(filled(0), EIPR, 0x03), PPR, 0x03),
-        243,
-        0x01,
-    );
+    write(0x00, EIPR, 0x03, 243, 0x01);
+    write(0x00, EIPR, 0x01, 243, 0x03);
+    write(0x00, EIPR, 0xFF, 243, 0x00);
+    write(0x00, EIPR, 0xA5, 243, 0xA5);
+    write(0x00, EIPR, 0xF0, 243, 0x3C);
+    write(0x03, PPR, 0x03, 243, 0x01);
 }
 
 pub fn nicr() {
-    show(b"NICR 80h", with(filled(0), NICR, 0x80), 247, 0x00);
-    show(b"NICR 00h", filled(0), 247, 0x80);
-    show(b"NICR 00h", filled(0), 247, 0xFF);
-    show(b"NICR FFh", with(filled(0), NICR, 0xFF), 247, 0x00);
-    show(b"NICR FFh", with(filled(0), NICR, 0xFF), 247, 0x85);
-    show(b"NICR 7Fh", with(filled(0), NICR, 0x7F), 247, 0x00);
+    write(0x00, NICR, 0x80, 247, 0x00);
+    write(0x00, NICR, 0x00, 247, 0x80);
+    write(0x00, NICR, 0x00, 247, 0xFF);
+    write(0x00, NICR, 0xFF, 247, 0x00);
+    write(0x00, NICR, 0xFF, 247, 0x85);
+    write(0x00, NICR, 0x7F, 247, 0x00);
 }
 
 pub fn ppr() {
-    show(b"PPR 03h", with(filled(0), PPR, 0x03), 234, 0x03);
-    show(b"FFh", filled(0xFF), 234, 0x27);
+    write(0x00, PPR, 0x03, 234, 0x03);
+    write(0xFF, PPR, 0xFF, 234, 0x27);
 }
 
-pub fn record_registers() {
-    let zeros = with(filled(0), PPR, 0x27);
-    let ones = with(filled(0xFF), PPR, 0x27);
-    show(b"zeros, PPR 27h", zeros, 240, 0xFF);
-    show(b"FFh, PPR 27h", ones, 240, 0xC0);
-    show(b"zeros, PPR 27h", zeros, 241, 0xFF);
-    show(b"zeros, PPR 27h", zeros, 242, 0xFF);
-    show(b"FFh, PPR 27h", ones, 243, 0x00);
-    show(b"FFh, PPR 27h", ones, 244, 0x00);
-    show(b"FFh, PPR 27h", ones, 247, 0x00);
-    show(b"zeros, PPR 27h", zeros, 252, 0xFF);
-    show(b"zeros, PPR 27h", zeros, 255, 0xFF);
-    show(b"zeros, PPR 27h", zeros, 0, 0x5A);
-    show(b"i mod 251, PPR 27h", with(counted(), PPR, 0x27), 255, 0xFF);
+// On page 9.
+pub fn two_records() {
+    write(0x00, PPR, 0x27, 240, 0xFF);
+    write(0xFF, PPR, 0x27, 240, 0xC0);
+    write(0x00, PPR, 0x27, 241, 0xFF);
+    write(0x00, PPR, 0x27, 242, 0xFF);
+    write(0xFF, PPR, 0x27, 243, 0x00);
+    write(0xFF, PPR, 0x27, 244, 0x00);
+    write(0xFF, PPR, 0x27, 247, 0x00);
+    write(0x00, PPR, 0x27, 252, 0xFF);
+    write(0x00, PPR, 0x27, 255, 0xFF);
+    write(0x00, PPR, 0x27, 0, 0x5A);
+    text(b"i mod 251, byte 234 27h");
+    show(with(counted(), PPR, 0x27), 255, 0xFF);
 }
 
-pub fn other_records() {
-    let sixty_three = with(filled(0xFF), PPR, 0xFC);
-    let first = with(filled(0xFF), PPR, 0x04);
-    show(b"FFh, PPR FCh", sixty_three, 240, 0x00);
-    show(b"FFh, PPR FCh", sixty_three, 243, 0xD5);
-    show(b"FFh, PPR FCh", sixty_three, 255, 0x00);
-    show(b"FFh, PPR 04h", first, 243, 0x00);
-    show(b"FFh, PPR 04h", first, 247, 0xC0);
-    show(b"FFh, PPR 04h", first, 255, 0x00);
+// On pages 63 and 1.
+pub fn one_record() {
+    write(0xFF, PPR, 0xFC, 240, 0x00);
+    write(0xFF, PPR, 0xFC, 243, 0xD5);
+    write(0xFF, PPR, 0xFC, 255, 0x00);
+    write(0xFF, PPR, 0x04, 243, 0x00);
+    write(0xFF, PPR, 0x04, 247, 0xC0);
+    write(0xFF, PPR, 0x04, 255, 0x00);
 }
 
 // R223, and the system registers.
 pub fn to_ones() {
     for register in 223..240 {
-        show(b"zeros", filled(0), register, 0xFF);
+        write(0x00, PPR, 0x00, register, 0xFF);
     }
 }
 
 // CICR, MODER, and the registers of page 0 but EIPR and NICR.
 pub fn to_zeros() {
-    let ones = with(filled(0xFF), PPR, 0x00);
-    show(b"FFh, PPR 00h", ones, 230, 0x00);
-    show(b"FFh, PPR 00h", ones, 235, 0x00);
-    show(b"FFh, PPR 00h", ones, 242, 0x00);
-    show(b"FFh, PPR 00h", ones, 244, 0x00);
-    show(b"FFh, PPR 00h", ones, 245, 0x00);
-    show(b"FFh, PPR 00h", ones, 246, 0x00);
+    write(0xFF, PPR, 0x00, 230, 0x00);
+    write(0xFF, PPR, 0x00, 235, 0x00);
+    write(0xFF, PPR, 0x00, 242, 0x00);
+    write(0xFF, PPR, 0x00, 244, 0x00);
+    write(0xFF, PPR, 0x00, 245, 0x00);
+    write(0xFF, PPR, 0x00, 246, 0x00);
 }
 
 pub fn page_zero_to_ones() {
-    show(b"zeros", filled(0), 242, 0xFF);
-    show(b"zeros", filled(0), 244, 0xFF);
-    show(b"zeros", filled(0), 245, 0xFF);
-    show(b"zeros", filled(0), 246, 0xFF);
+    write(0x00, PPR, 0x00, 242, 0xFF);
+    write(0x00, PPR, 0x00, 244, 0xFF);
+    write(0x00, PPR, 0x00, 245, 0xFF);
+    write(0x00, PPR, 0x00, 246, 0xFF);
 }
 
 pub fn unmodelled() {
-    show(b"zeros", filled(0), 240, 0xFF);
-    show(b"zeros", filled(0), 241, 0xFF);
-    show(b"zeros", filled(0), 248, 0xFF);
-    show(b"zeros", filled(0), 255, 0xFF);
-    show(b"zeros", filled(0), 256, 0xFF);
-    show(b"zeros", filled(0), 65776, 0xFF);
-    show(b"zeros", filled(0), 65778, 0xFF);
-    show(b"zeros, PPR 24h", with(filled(0), PPR, 0x24), 245, 0xFF);
-    show(b"zeros, PPR 24h", with(filled(0), PPR, 0x24), 253, 0xFF);
-    show(b"zeros, PPR 24h", with(filled(0), PPR, 0x24), 256, 0xFF);
-    show(b"zeros, PPR 24h", with(filled(0), PPR, 0x24), 65776, 0xFF);
-    show(b"zeros, PPR 28h", with(filled(0), PPR, 0x28), 240, 0xFF);
-    show(b"zeros, PPR 28h", with(filled(0), PPR, 0x28), 243, 0xFF);
+    write(0x00, PPR, 0x00, 240, 0xFF);
+    write(0x00, PPR, 0x00, 241, 0xFF);
+    write(0x00, PPR, 0x00, 248, 0xFF);
+    write(0x00, PPR, 0x00, 255, 0xFF);
+    write(0x00, PPR, 0x00, 256, 0xFF);
+    write(0x00, PPR, 0x00, 65776, 0xFF);
+    write(0x00, PPR, 0x00, 65778, 0xFF);
+    write(0x00, PPR, 0x24, 245, 0xFF);
+    write(0x00, PPR, 0x24, 253, 0xFF);
+    write(0x00, PPR, 0x24, 256, 0xFF);
+    write(0x00, PPR, 0x24, 65776, 0xFF);
+    write(0x00, PPR, 0x28, 240, 0xFF);
+    write(0x00, PPR, 0x28, 243, 0xFF);
 }
 
 fn show_reset(start: &[u8], image: [u8; IMAGE_LENGTH]) {
@@ -148,11 +150,11 @@ fn reset_once() -> [u8; IMAGE_LENGTH] {
 }
 
 pub fn resets() {
-    show_reset(b"zeros", filled(0));
-    show_reset(b"FFh", filled(0xFF));
-    show_reset(b"55h", filled(0x55));
+    show_reset(b"all 00h", filled(0));
+    show_reset(b"all FFh", filled(0xFF));
+    show_reset(b"all 55h", filled(0x55));
     show_reset(b"i mod 251", counted());
-    show_reset(b"zeros, EIVR A9h", with(filled(0), EIVR, 0xA9));
-    show_reset(b"55h after a reset", reset_once());
-    show_reset(b"zeros, mark 02h", with(filled(0), MARK, 0x02));
+    show_reset(b"all 00h, byte 246 A9h", with(filled(0), EIVR, 0xA9));
+    show_reset(b"all 55h after a reset", reset_once());
+    show_reset(b"all 00h, byte 1264 02h", with(filled(0), MARK, 0x02));
 }

@@ -5,22 +5,16 @@ use Rattle.register_cases.proofs.writes.to_ones.Statement.{statement}
 use Rattle.register_cases.proofs.writes.to_ones.Tie as tie
 
 abbrev Inv-loop : tie.InvT-loop
-Inv-loop register₀ t2 register = register ≤ 240
+Inv-loop register₀ register = register ≤ 240
 
 abbrev μ-loop : tie.MeasureT-loop
-μ-loop register₀ t2 register = 240 - register
+μ-loop register₀ register = 240 - register
 
 loop-holds : tie.Need-loop-holds Inv-loop μ-loop
 loop-holds c = search needs
 
-slice-aggregate-show : tie.Need-slice-aggregate-show Inv-loop μ-loop
-slice-aggregate-show c = search needs
-
-filled-requires : tie.Need-filled-requires Inv-loop μ-loop
-filled-requires c κs = search needs
-
-show-requires : tie.Need-show-requires Inv-loop μ-loop
-show-requires c κs = search needs
+write-requires : tie.Need-write-requires Inv-loop μ-loop
+write-requires c κs = search needs
 
 add-register : tie.Need-add-register Inv-loop μ-loop
 add-register c = search needs
@@ -37,14 +31,4 @@ returns c = search needs
 pub to-ones-spec : {M : Type 1} → statement M
 to-ones-spec =
     tie.close
-    (tie.spec
-    Inv-loop
-    μ-loop
-    loop-holds
-    slice-aggregate-show
-    filled-requires
-    show-requires
-    add-register
-    loop-less
-    loop-again
-    returns)
+    (tie.spec Inv-loop μ-loop loop-holds write-requires add-register loop-less loop-again returns)
