@@ -30,11 +30,15 @@ pub fn records() -> Channels {
 }
 
 fn main() {
-    reads::page_zero();
+    reads::system();
+    reads::page(0x00);
+    reads::page(0x27);
+    reads::page(0xFC);
+    reads::page(0x04);
+    reads::page(0x28);
     reads::absent_bits();
-    reads::two_records();
-    reads::one_record();
-    reads::no_record();
+    reads::large_numbers();
+    reads::other_records();
     writes::eipr();
     writes::nicr();
     writes::ppr();

@@ -32,78 +32,49 @@ fn read(ppr: u8, register: u32) {
     show(records(), ppr, register);
 }
 
-pub fn page_zero() {
-    read(0x00, 0);
-    read(0x00, 223);
-    read(0x00, 224);
-    read(0x00, 230);
-    read(0x00, 235);
-    read(0x00, 239);
-    read(0x00, 240);
-    read(0x00, 241);
-    read(0x00, 242);
-    read(0x00, 243);
-    read(0x00, 244);
-    read(0x00, 245);
-    read(0x00, 246);
-    read(0x00, 247);
-    read(0x00, 248);
-    read(0x00, 255);
-    read(0x00, 256);
-    read(0x00, 65776);
-    read(0x00, 65778);
+// The registers from `first` on, up to `end`.
+fn range(ppr: u8, first: u32, end: u32) {
+    let mut register = first;
+    while register < end {
+        read(ppr, register);
+        register += 1;
+    }
 }
 
+// R0, R223 and the system registers.
+pub fn system() {
+    read(0x00, 0);
+    range(0x00, 223, 240);
+}
+
+// The sixteen registers of the page that PPR selects, and the number after them.
+pub fn page(ppr: u8) {
+    range(ppr, 240, 257);
+}
+
+// PPR's own absent bits, read and in the page.
 pub fn absent_bits() {
     read(0x03, 234);
     read(0x03, 243);
     read(0x27, 234);
-    read(0xFF, 234);
-}
-
-pub fn two_records() {
-    read(0x27, 0);
-    read(0x27, 239);
     read(0x24, 240);
-    read(0x27, 240);
-    read(0x27, 241);
-    read(0x27, 242);
-    read(0x27, 243);
-    read(0x27, 244);
-    read(0x27, 245);
-    read(0x27, 246);
-    read(0x27, 247);
-    read(0x27, 248);
-    read(0x27, 250);
-    read(0x27, 251);
-    read(0x27, 252);
-    read(0x27, 254);
-    read(0x27, 255);
-    read(0x27, 256);
-    read(0x27, 65776);
+    read(0xFF, 234);
+    read(0xFF, 240);
 }
 
-pub fn one_record() {
-    read(0xFC, 240);
-    read(0xFC, 243);
-    read(0xFC, 247);
-    read(0xFC, 255);
+// Numbers that would name a register if they were cut to eight or sixteen bits.
+pub fn large_numbers() {
+    read(0x00, 65778);
+    read(0x27, 496);
+    read(0x27, 65776);
     read(0xFC, 4294967295);
-    read(0x04, 240);
-    read(0x04, 243);
-    read(0x04, 247);
-    read(0x04, 255);
+}
+
+pub fn other_records() {
     read(0x50, 240);
     read(0x6C, 244);
-}
-
-pub fn no_record() {
     read(0x20, 240);
     read(0x28, 239);
-    read(0x28, 240);
-    read(0x28, 243);
-    read(0x28, 255);
-    read(0x28, 256);
     text(b"no record, ");
     show(repeated(usual(9), 0), 0x24, 240);
 }

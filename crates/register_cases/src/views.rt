@@ -1,5 +1,5 @@
-// Cases of the view, each a line: the length of the image, the page, whether it is accepted and the part. Byte i of an image of 1,265 bytes is
-// i mod 251, but for PPR; the other images are zeros.
+// Cases of the view, each a line: PPR where it matters, the length of the image, the page, whether it is accepted and the part. Byte i of an image of
+// 1,265 bytes is i mod 251, but for PPR; the other images are zeros.
 use report::text;
 use rules::PPR;
 use samples::counted;

@@ -68,7 +68,7 @@ pub fn ppr() {
     write(0xFF, PPR, 0xFF, 234, 0x27);
 }
 
-// On page 9.
+// With page 9 selected.
 pub fn two_records() {
     write(0x00, PPR, 0x27, 240, 0xFF);
     write(0xFF, PPR, 0x27, 240, 0xC0);
@@ -84,7 +84,7 @@ pub fn two_records() {
     show(with(counted(), PPR, 0x27), 255, 0xFF);
 }
 
-// On pages 63 and 1.
+// With page 63 selected, then page 1.
 pub fn one_record() {
     write(0xFF, PPR, 0xFC, 240, 0x00);
     write(0xFF, PPR, 0xFC, 243, 0xD5);
@@ -111,6 +111,7 @@ pub fn to_zeros() {
     write(0xFF, PPR, 0x00, 246, 0x00);
 }
 
+// The registers of page 0 but EIPR and NICR.
 pub fn page_zero_to_ones() {
     write(0x00, PPR, 0x00, 242, 0xFF);
     write(0x00, PPR, 0x00, 244, 0xFF);
