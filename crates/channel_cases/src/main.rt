@@ -1,9 +1,10 @@
 // Runs cases of the channel list's check, and prints a line for each: what the list has of note, and whether it is within the rules. Numbers that the
-// line does not name are in range, and no pair but the one that it names occurs twice. The expected output, beside this program, is written from
-// document 01.
+// line does not name are in range, and no pair but the one that it names occurs twice. Then the bytes of some records' registers. The expected
+// output, beside this program, is written from document 01.
 use report::text;
 use rules::Channel;
 use rules::Channels;
+use rules::Places;
 use samples::channel;
 use samples::one;
 use samples::repeated;
@@ -151,10 +152,42 @@ fn pairs_across_records() {
     );
 }
 
+fn show_byte(name: &[u8], register: u8, byte: usize) {
+    text(name);
+    report::number(register as u64);
+    text(b" at ");
+    report::number(byte as u64);
+}
+
+// The bytes of a record's registers.
+fn show_places(c: Channel, p: Places) {
+    text(b"page ");
+    report::number(c.page as u64);
+    show_byte(b": IDCR R", c.idcr, p.idcr);
+    show_byte(b", IVR R", c.ivr, p.ivr);
+    show_byte(b", DCPR R", c.dcpr, p.dcpr);
+    show_byte(b", DAPR R", c.dapr, p.dapr);
+    show_byte(b", data R", c.io, p.io);
+    text(b"\n");
+}
+
+fn record(c: Channel) {
+    if channels::list_ok(one(c)) {
+        show_places(c, channels::places_of(c));
+    }
+}
+
+fn places() {
+    record(usual(1));
+    record(channel(9, 255, 247, 250, 251, 252));
+    record(channel(63, 251, 252, 253, 254, 255));
+}
+
 fn main() {
     counts();
     pages();
     registers();
     pairs_in_a_record();
     pairs_across_records();
+    places();
 }

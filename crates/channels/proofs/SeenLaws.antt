@@ -12,14 +12,14 @@ use borrow.Author.Tests.{eq-eqb, ne-eqb, le-leb}
 use Rattle.bits.proofs.BitLaws.{bit-zero}
 use Rattle.rules.specs.declared.Channel.{Channel}
 use Rattle.rules.specs.declared.Channels.{Channels}
+use Rattle.rules.specs.declared.Places.{Places}
 use Rattle.rules.specs.Image.{has, put, MARK}
-use Rattle.rules.specs.Channels.{mostRecords, noChannel, recordBytes, recordOk, recordsOk, member, distinct, allBytes, listOk}
+use Rattle.rules.specs.Channels.{mostRecords, noChannel, placesOf, recordBytes, recordOk, recordsOk, member, distinct, allBytes, listOk}
 use Rattle.rules.proofs.Bools.{and-l, and-r}
 use Rattle.rules.proofs.ImageLaws.{Apart, put-length, has-put-same, has-put-other}
 use Rattle.rules.proofs.ChannelLaws.{registerByte, record-range}
 use Rattle.channels.proofs.RestLaws.{rest, rest-cons, rest-none}
-use Rattle.channels.specs.declared.Places.{Places}
-use Rattle.channels.specs.Seen.{placesOf, seenBit, seenLength, unseen, seeing}
+use Rattle.channels.specs.Seen.{seenBit, seenLength, unseen, seeing}
 
 -- ---- a byte that is seen
 
@@ -112,8 +112,8 @@ module _ (c : Channel) (p : Places) (s s1 s2 s3 s4 s5 : List ℕ) (idcr ivr dcpr
 -- ---- the records
 
 -- what is left to check of a list: its records are in range, and their bytes are met for the first time
-abbrev pub Left : List ℕ → List Channel → Bool
-Left s cs = recordsOk cs && unseen s (allBytes cs)
+abbrev pub leftOk : List ℕ → List Channel → Bool
+leftOk s cs = recordsOk cs && unseen s (allBytes cs)
 
 record-before : (c : Channel) → recordOk c ≡ true → (xs : List ℕ) → Before xs → Before (recordBytes c ++ xs)
 record-before c ok xs b = let (h0, h1, h2, h3, h4) = places-before c (placesOf c) ok refl in (h0, (h1, (h2, (h3, (h4, b)))))
@@ -125,11 +125,11 @@ records-before (c ∷ cs) ok =
     record-before c (and-l (recordOk c) (recordsOk cs) ok) (allBytes cs) (records-before cs (and-r (recordOk c) (recordsOk cs) ok))
 
 -- at the start all of it is left
-pub left-all : (cs : List Channel) → length cs ≤ mostRecords → listOk cs ≡ Left (replicate seenLength 0) cs
+pub left-all : (cs : List Channel) → length cs ≤ mostRecords → listOk cs ≡ leftOk (replicate seenLength 0) cs
 unfolding listOk
 left-all cs short = rw (le-leb (length cs) mostRecords short) (go (recordsOk cs) refl)
   where
-    go : (b : Bool) → recordsOk cs ≡ b → (recordsOk cs && distinct (allBytes cs)) ≡ Left (replicate seenLength 0) cs
+    go : (b : Bool) → recordsOk cs ≡ b → (recordsOk cs && distinct (allBytes cs)) ≡ leftOk (replicate seenLength 0) cs
     go false e = rw e
     go true e =
         rw e (sym (unseen-distinct (replicate seenLength 0) (allBytes cs) (length-replicate {A = ℕ} seenLength 0) (records-before cs e)
@@ -148,7 +148,7 @@ swap false r u v = refl
 
 -- what is left with a record in front: the record, and then the rest
 left-cons : (s : List ℕ) (c : Channel) (cs : List Channel)
-    → Left s (c ∷ cs) ≡ (recordOk c && (unseen s (recordBytes c) && Left (seeing s (recordBytes c)) cs))
+    → leftOk s (c ∷ cs) ≡ (recordOk c && (unseen s (recordBytes c) && leftOk (seeing s (recordBytes c)) cs))
 unfolding recordsOk allBytes
 left-cons s c cs =
     ap (λ (b : Bool). recordOk c && recordsOk cs && b) (unseen-append s (recordBytes c) (allBytes cs))
@@ -158,12 +158,12 @@ left-cons s c cs =
 module _ (all : Channels) (full : length (all .items) ≡ mostRecords) (short : all .count ≤ mostRecords) where
   pub left-turn : (s t : List ℕ) (k : ℕ) (a b : Bool) → k < all .count → a ≡ recordOk (getD (all .items) k noChannel)
       → (b ≡ unseen s (recordBytes (getD (all .items) k noChannel))) × (t ≡ seeing s (recordBytes (getD (all .items) k noChannel)))
-      → Left s (rest all k) ≡ (a && (b && Left t (rest all (k + 1))))
+      → leftOk s (rest all k) ≡ (a && (b && leftOk t (rest all (k + 1))))
   left-turn s t k a b h ranged seen =
-      ap (Left s) (rest-cons all full short k h) ∙ left-cons s (getD (all .items) k noChannel) (rest all (k + 1))
+      ap (leftOk s) (rest-cons all full short k h) ∙ left-cons s (getD (all .items) k noChannel) (rest all (k + 1))
       ∙ rw (ranged, seen .0, seen .1)
 
   -- at the end nothing is left
-  pub left-none : (s : List ℕ) → Left s (rest all (all .count)) ≡ true
+  pub left-none : (s : List ℕ) → leftOk s (rest all (all .count)) ≡ true
   unfolding recordsOk allBytes unseen
   left-none s = rw (rest-none all full short)

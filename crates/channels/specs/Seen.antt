@@ -1,16 +1,9 @@
--- Names for the functions of this crate: the places of a record, and the set of bytes that the check of a list has seen.
+-- The set of bytes that the check of a list has seen.
 -- Assumes nothing.
 use mathlib.Core.Bool.{Bool, true, not, _&&_}
 use mathlib.Core.List.{List, [], _∷_}
 use Prim.Native.Nat.{ℕ, _/_, _%_}
-use Rattle.rules.specs.declared.Channel.{Channel}
 use Rattle.rules.specs.Image.{Bit, bitOf, has, put}
-use Rattle.rules.specs.Channels.{idcrByte, ivrByte, dcprByte, daprByte, dataByte}
-use Rattle.channels.specs.declared.Places.{Places}
-
--- the bytes of a record's registers
-abbrev pub placesOf : Channel → Places
-placesOf c = record { idcr = idcrByte c; ivr = ivrByte c; dcpr = dcprByte c; dapr = daprByte c; io = dataByte c }
 
 -- a set of bytes of the image is a list of bytes, with a bit for each: byte x of the image is bit x % 8 of byte x / 8
 abbrev pub seenBit : ℕ → Bit

@@ -4,25 +4,17 @@ use bits::put_bit;
 use rules::Channel;
 use rules::Channels;
 use rules::MOST_RECORDS;
+use rules::Places;
 ghost use mathlib.Core.Path.{_≡_};
 ghost use mathlib.Core.Bool.{true, not};
 ghost use Prim.Native.Nat.{_≤_, _<_};
 ghost use lib.ListN.{replicate};
 ghost use Rattle.rules.specs.Image.{pageByte, has, put, MARK};
-ghost use Rattle.rules.specs.Channels.{recordBytes, recordOk, listOk, listOf};
-ghost use Rattle.channels.specs.Seen.{placesOf, seenBit, seenLength, unseen, seeing};
+ghost use Rattle.rules.specs.Channels.{placesOf, recordBytes, recordOk, listOk, listOf};
+ghost use Rattle.channels.specs.Seen.{seenBit, seenLength, unseen, seeing};
 
 // A bit for each byte of the image before the mark.
 const SEEN_LENGTH: usize = 158;
-
-// The bytes of a record's registers.
-pub struct Places {
-    pub idcr: usize,
-    pub ivr: usize,
-    pub dcpr: usize,
-    pub dapr: usize,
-    pub io: usize,
-}
 
 // The byte of a register (240 to 255) of a page.
 pub fn page_byte(page: u8, register: u8) -> usize

@@ -9,7 +9,7 @@ use samples::channel;
 use samples::usual;
 
 // The records of the cases of read and write: two on page 9, one on page 63, eight on pages 20 to 27, the last on page 1.
-pub fn records() -> Channels {
+fn records() -> Channels {
     Channels {
         items: [
             usual(9),

@@ -11,6 +11,7 @@ use samples::repeated;
 use samples::usual;
 use samples::with;
 
+// The answer of a read, with refusal 2 for a list outside the rules: no case here has one.
 fn answer_of(image: [u8; IMAGE_LENGTH], all: Channels, register: u32) -> Answer {
     if channels::list_ok(all) {
         return registers::read(&image, all, register);

@@ -5,7 +5,6 @@ use report::text;
 use rules::Answer;
 use rules::Channels;
 use rules::EIPR;
-use rules::EIVR;
 use rules::IMAGE_LENGTH;
 use rules::MARK;
 use rules::NICR;
@@ -14,7 +13,10 @@ use rules::Refusal;
 use samples::counted;
 use samples::filled;
 use samples::with;
+ghost use Prim.Native.Nat.{_<_};
+ghost use Rattle.rules.specs.Image.{imageLength};
 
+// The answer of a write, with refusal 2 for a list outside the rules: no case here has one.
 fn answer_of(image: &mut [u8; IMAGE_LENGTH], all: Channels, register: u32, value: u8) -> Answer {
     if channels::list_ok(all) {
         return registers::write(image, all, register, value);
@@ -35,7 +37,9 @@ fn show(image: [u8; IMAGE_LENGTH], register: u32, value: u8) {
 }
 
 // From an image of `fill` throughout, but `b` at one byte.
-fn write(fill: u8, at: usize, b: u8, register: u32, value: u8) {
+fn write(fill: u8, at: usize, b: u8, register: u32, value: u8)
+    requires { ⌜ at < imageLength ⌝ }
+{
     text(b"all ");
     report::byte(fill);
     text(b", byte ");
@@ -133,6 +137,8 @@ pub fn unmodelled() {
     write(0x00, PPR, 0x24, 65776, 0xFF);
     write(0x00, PPR, 0x28, 240, 0xFF);
     write(0x00, PPR, 0x28, 243, 0xFF);
+    write(0xFF, PPR, 0x00, 240, 0x00);
+    write(0xFF, PPR, 0x28, 243, 0x00);
 }
 
 fn show_reset(start: &[u8], image: [u8; IMAGE_LENGTH]) {
@@ -155,7 +161,7 @@ pub fn resets() {
     show_reset(b"all FFh", filled(0xFF));
     show_reset(b"all 55h", filled(0x55));
     show_reset(b"i mod 251", counted());
-    show_reset(b"all 00h, byte 246 A9h", with(filled(0), EIVR, 0xA9));
+    show_reset(b"all 00h, byte 246 A9h", with(filled(0), 246, 0xA9));
     show_reset(b"all 55h after a reset", reset_once());
     show_reset(b"all 00h, byte 1264 02h", with(filled(0), MARK, 0x02));
 }

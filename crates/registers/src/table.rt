@@ -59,7 +59,7 @@ const RESET_MASKS: [u8; ROW_COUNT] = [
     0xFF, // R247 NICR
 ];
 
-// What it makes of them.
+// The values that reset gives those bits.
 const RESET_BYTES: [u8; ROW_COUNT] = [
     0x00, // R224
     0x00,
@@ -114,7 +114,7 @@ pub fn reset_masks() -> [u8; ROW_COUNT]
     RESET_MASKS
 }
 
-// What reset makes of them, of every row.
+// The values that reset gives them, of every row.
 pub fn reset_bytes() -> [u8; ROW_COUNT]
     ensures { λ b. ⌜ b ≡ map (λ (w : Row). w .value) rows ⌝ }
 {

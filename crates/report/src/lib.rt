@@ -47,7 +47,7 @@ fn refusal_number(r: Refusal) -> u64
 }
 
 // A refusal by its number.
-pub fn refusal(r: Refusal) {
+fn refusal(r: Refusal) {
     text(b"refused ");
     number(refusal_number(r));
 }

@@ -86,7 +86,7 @@ list-long cs h = rw (lt-leb (length cs) 12 h)
 -- ---- a list by value
 
 -- a count of twelve at most stands for the first of its items
-pub listOf-take : (all : Channels) → all .count ≤ 12 → listOf all ≡ take (all .count) (all .items)
+listOf-take : (all : Channels) → all .count ≤ 12 → listOf all ≡ take (all .count) (all .items)
 unfolding listOf
 listOf-take all h = rw (le-ltb 12 (all .count) h)
 

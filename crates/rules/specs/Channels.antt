@@ -7,6 +7,7 @@ use lib.Dec.{eqb, ltb, leb}
 use lib.ListN.{length, getD, take}
 use Rattle.rules.specs.declared.Channel.{Channel}
 use Rattle.rules.specs.declared.Channels.{Channels}
+use Rattle.rules.specs.declared.Places.{Places}
 use Rattle.rules.specs.Image.{pageByte}
 
 -- a list has at most twelve records
@@ -37,7 +38,11 @@ daprByte c = pageByte (c .page) (c .dapr)
 unfoldable pub dataByte : Channel → ℕ
 dataByte c = pageByte (c .page) (c .io)
 
--- all five, in this order
+-- all five by name
+abbrev pub placesOf : Channel → Places
+placesOf c = record { idcr = idcrByte c; ivr = ivrByte c; dcpr = dcprByte c; dapr = daprByte c; io = dataByte c }
+
+-- and in this order
 abbrev pub recordBytes : Channel → List ℕ
 recordBytes c = idcrByte c ∷ ivrByte c ∷ dcprByte c ∷ daprByte c ∷ dataByte c ∷ []
 

@@ -9,22 +9,10 @@ pub const MOST_RECORDS: usize = 12;
 // The rows of the register table.
 pub const ROW_COUNT: usize = 22;
 
-// The bytes of the named registers, and of the top-level-in-service mark.
-pub const CICR: usize = 230;
-
+// The bytes of PPR, EIPR and NICR, and of the top-level-in-service mark.
 pub const PPR: usize = 234;
 
-pub const MODER: usize = 235;
-
-pub const EITR: usize = 242;
-
 pub const EIPR: usize = 243;
-
-pub const EIMR: usize = 244;
-
-pub const EIPLR: usize = 245;
-
-pub const EIVR: usize = 246;
 
 pub const NICR: usize = 247;
 
@@ -44,8 +32,17 @@ pub struct Channel {
 
 // A channel list by value: the first `count` of the items. A count over twelve stands for a list that is too long.
 pub struct Channels {
-    pub items: [Channel; 12],
+    pub items: [Channel; MOST_RECORDS],
     pub count: usize,
+}
+
+// The bytes of a record's registers.
+pub struct Places {
+    pub idcr: usize,
+    pub ivr: usize,
+    pub dcpr: usize,
+    pub dapr: usize,
+    pub io: usize,
 }
 
 // Where a register number goes: a byte of the image with the bits that exist there, or nowhere.

@@ -2,24 +2,35 @@
 use rules::Channel;
 use rules::Channels;
 use rules::IMAGE_LENGTH;
+use rules::MOST_RECORDS;
+ghost use mathlib.Core.Path.{_≡_};
+ghost use Prim.Native.Nat.{_<_};
+ghost use lib.ListN.{set, replicate};
+ghost use Rattle.rules.specs.Image.{imageLength};
+ghost use Rattle.samples.specs.Samples.{Counted, channelOf, usualOf, listBy, sameItems, elevenAnd};
 
 // An image of one byte throughout.
-pub fn filled(b: u8) -> [u8; IMAGE_LENGTH] {
+pub fn filled(b: u8) -> [u8; IMAGE_LENGTH]
+    ensures { λ m. ⌜ m ≡ replicate imageLength b ⌝ }
+{
     [b; IMAGE_LENGTH]
 }
 
 // The image with one byte replaced.
-pub fn with(image: [u8; IMAGE_LENGTH], at: usize, b: u8) -> [u8; IMAGE_LENGTH] {
+pub fn with(image: [u8; IMAGE_LENGTH], at: usize, b: u8) -> [u8; IMAGE_LENGTH]
+    requires { ⌜ at < imageLength ⌝ }
+    ensures { λ m. ⌜ m ≡ set image at b ⌝ }
+{
     let mut m = image;
-    if at < IMAGE_LENGTH {
-        m[at] = b;
-    }
+    m[at] = b;
     m
 }
 
 // The image whose byte i is i mod 251.
-pub fn counted() -> [u8; IMAGE_LENGTH] {
-    let mut m = [0u8; IMAGE_LENGTH];
+pub fn counted() -> [u8; IMAGE_LENGTH]
+    ensures { λ m. ⌜ Counted m ⌝ }
+{
+    let mut m = filled(0);
     for i in 0..IMAGE_LENGTH {
         m[i] = (i % 251) as u8;
     }
@@ -27,7 +38,9 @@ pub fn counted() -> [u8; IMAGE_LENGTH] {
 }
 
 // A record of direction 0.
-pub fn channel(page: u8, idcr: u8, ivr: u8, dcpr: u8, dapr: u8, io: u8) -> Channel {
+pub fn channel(page: u8, idcr: u8, ivr: u8, dcpr: u8, dapr: u8, io: u8) -> Channel
+    ensures { λ c. ⌜ c ≡ channelOf page idcr ivr dcpr dapr io ⌝ }
+{
     Channel {
         page,
         idcr,
@@ -40,33 +53,43 @@ pub fn channel(page: u8, idcr: u8, ivr: u8, dcpr: u8, dapr: u8, io: u8) -> Chann
 }
 
 // R240 to R244 of a page.
-pub fn usual(page: u8) -> Channel {
+pub fn usual(page: u8) -> Channel
+    ensures { λ c. ⌜ c ≡ usualOf page ⌝ }
+{
     channel(page, 240, 241, 242, 243, 244)
 }
 
 // A list by value with this count, whose twelve items are all the same record.
-pub fn repeated(c: Channel, count: usize) -> Channels {
+pub fn repeated(c: Channel, count: usize) -> Channels
+    ensures { λ l. ⌜ l ≡ listBy (sameItems c) count ⌝ }
+{
     Channels {
-        items: [c; 12],
+        items: [c; MOST_RECORDS],
         count,
     }
 }
 
 // A list of one record. The items after it are the same record, and are not looked at.
-pub fn one(c: Channel) -> Channels {
+pub fn one(c: Channel) -> Channels
+    ensures { λ l. ⌜ l ≡ listBy (sameItems c) 1 ⌝ }
+{
     repeated(c, 1)
 }
 
 // A list of three records.
-pub fn three(c: Channel, d: Channel, e: Channel) -> Channels {
-    let mut items = [c; 12];
+pub fn three(c: Channel, d: Channel, e: Channel) -> Channels
+    ensures { λ l. ⌜ l ≡ listBy (set (set (sameItems c) 1 d) 2 e) 3 ⌝ }
+{
+    let mut items = [c; MOST_RECORDS];
     items[1] = d;
     items[2] = e;
     Channels { items, count: 3 }
 }
 
 // A list by value with this count. Of its twelve items the last is given, and the others are R240 to R244 of pages 1 to 11.
-pub fn twelve(last: Channel, count: usize) -> Channels {
+pub fn twelve(last: Channel, count: usize) -> Channels
+    ensures { λ l. ⌜ l ≡ listBy (elevenAnd last) count ⌝ }
+{
     Channels {
         items: [
             usual(1),

@@ -11,13 +11,13 @@ use Rattle.rules.specs.Channels.{mostRecords, listOk, listOf}
 use Rattle.rules.proofs.ListLaws.{listOf-length, listOf-long}
 use Rattle.rules.proofs.Twelve.{twelve}
 use Rattle.channels.proofs.RestLaws.{rest}
-use Rattle.channels.proofs.SeenLaws.{Left, left-all, left-turn, left-none}
+use Rattle.channels.proofs.SeenLaws.{leftOk, left-all, left-turn, left-none}
 use Rattle.channels.proofs.list_ok.Statement.{statement}
 use Rattle.channels.proofs.list_ok.Tie as tie
 
 abbrev Inv-loop : tie.InvT-loop
 Inv-loop all seen₀ k₀ seen k =
-    (k ≤ all .count) × (all .count ≤ mostRecords) × (length (all .items) ≡ mostRecords) × (listOk (listOf all) ≡ Left seen (rest all k))
+    (k ≤ all .count) × (all .count ≤ mostRecords) × (length (all .items) ≡ mostRecords) × (listOk (listOf all) ≡ leftOk seen (rest all k))
 
 abbrev μ-loop : tie.MeasureT-loop
 μ-loop all seen₀ k₀ seen k = all .count - k
@@ -39,7 +39,7 @@ loop-holds c =
       search needs,
       short,
       full,
-      left-all (listOf all) (omega (arith, listOf-length all full short)) ∙ ap (λ (s : List ℕ). Left s (listOf all)) (sym (c .none-seen .ensures)),
+      left-all (listOf all) (omega (arith, listOf-length all full short)) ∙ ap (λ (s : List ℕ). leftOk s (listOf all)) (sym (c .none-seen .ensures)),
     )
 
 mul-c : tie.Need-mul-c Inv-loop μ-loop
@@ -94,7 +94,7 @@ returns-4 c =
     let d = c .before in
     let all = d .before .before .before .args .t1 in
     let e : d .loop .k ≡ all .count = omega arith in
-    sym (d .loop .inv .3 ∙ ap (λ (k : ℕ). Left (d .loop .seen) (rest all k)) e ∙ left-none all (d .loop .inv .2) (d .loop .inv .1) (d .loop .seen))
+    sym (d .loop .inv .3 ∙ ap (λ (k : ℕ). leftOk (d .loop .seen) (rest all k)) e ∙ left-none all (d .loop .inv .2) (d .loop .inv .1) (d .loop .seen))
 
 pub list-ok-spec : {M : Type 1} → statement M
 list-ok-spec =

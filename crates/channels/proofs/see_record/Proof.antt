@@ -8,19 +8,29 @@ places-of-requires : tie.Need-places-of-requires
 places-of-requires c κs = search needs
 
 see-requires : tie.Need-see-requires
-see-requires c κs = let p = c .before in places-before (p .before .args .c) (p .places-of .result) (p .before .pre) (p .places-of .ensures) .0
+see-requires c κs =
+    let p = c .before in
+    places-before _ _ (p .before .pre) (p .places-of .ensures) .0
 
 see-requires-2 : tie.Need-see-requires-2
-see-requires-2 c κs = let p = c .before .before .before in places-before (p .before .args .c) (p .places-of .result) (p .before .pre) (p .places-of .ensures) .1
+see-requires-2 c κs =
+    let p = c .before .before .before in
+    places-before _ _ (p .before .pre) (p .places-of .ensures) .1
 
 see-requires-3 : tie.Need-see-requires-3
-see-requires-3 c κs = let p = c .before .before .before .before .before in places-before (p .before .args .c) (p .places-of .result) (p .before .pre) (p .places-of .ensures) .2
+see-requires-3 c κs =
+    let p = c .before .before .before .before .before in
+    places-before _ _ (p .before .pre) (p .places-of .ensures) .2
 
 see-requires-4 : tie.Need-see-requires-4
-see-requires-4 c κs = let p = c .before .before .before .before .before .before .before in places-before (p .before .args .c) (p .places-of .result) (p .before .pre) (p .places-of .ensures) .3
+see-requires-4 c κs =
+    let p = c .before .before .before .before .before .before .before in
+    places-before _ _ (p .before .pre) (p .places-of .ensures) .3
 
 see-requires-5 : tie.Need-see-requires-5
-see-requires-5 c κs = let p = c .before .before .before .before .before .before .before .before .before in places-before (p .before .args .c) (p .places-of .result) (p .before .pre) (p .places-of .ensures) .4
+see-requires-5 c κs =
+    let p = c .before .before .before .before .before .before .before .before .before in
+    places-before _ _ (p .before .pre) (p .places-of .ensures) .4
 
 returns : tie.Need-returns
 returns c =
