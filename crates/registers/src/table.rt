@@ -1,5 +1,5 @@
 // The table of twenty-two rows, a constant for each column: the system registers R224 to R239, then R242 to R247 of page 0. Read, write and reset go
-// by it. Columns of bytes, and not an array of structs, so that the compiler keeps them as constant data.
+// by it. The columns are bytes because the compiler would build a constant array of structs anew at each use.
 use rules::ROW_COUNT;
 ghost use mathlib.Core.Path.{_≡_};
 ghost use mathlib.Core.List.{map};
