@@ -48,6 +48,7 @@ abbrev Before : List ℕ → Type 0
 Before [] = Unit {0}
 Before (x ∷ xs) = (x < MARK) × Before xs
 
+-- tests regrouped
 shuffle : (e h o m : Bool) → (not (e || h) && (o && not m)) ≡ ((not h && o) && not (e || m))
 shuffle true h o m = sym (and-false (not h && o))
 shuffle false true o m = refl
@@ -61,6 +62,7 @@ outside-also s x [] long h = refl
 outside-also s x (y ∷ ys) long h =
     rw (seen-also s x y long h, outside-also s x ys long h) (shuffle (eqb x y) (has s (seenBit y)) (outside s ys) (member x ys))
 
+-- tests regrouped
 join : (a o m d : Bool) → (not a && ((o && not m) && d)) ≡ ((not a && o) && (not m && d))
 join true o m d = refl
 join false true m d = refl
@@ -141,6 +143,7 @@ unfolding unseen seeing
 unseen-append s [] ys = refl
 unseen-append s (x ∷ xs) ys = rw (unseen-append (put s (seenBit x) true) xs ys) (sym (and-assoc (not (has s (seenBit x))) _ _))
 
+-- tests regrouped
 swap : (a r u v : Bool) → (a && r && (u && v)) ≡ (a && (u && (r && v)))
 swap true true u v = refl
 swap true false u v = sym (and-false u)
