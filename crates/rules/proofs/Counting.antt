@@ -11,42 +11,42 @@ use native.Mathlib.Decide.{ℕ-discrete}
 use Rattle.rules.specs.declared.Channel.{Channel}
 use Rattle.rules.specs.Image.{Image}
 use Rattle.rules.specs.Sources.{sources, pending}
-use Rattle.rules.specs.Runs.{one}
-use Rattle.rules.specs.Waiting.{count, pendingOf}
+use Rattle.rules.specs.Runs.{oneIf}
+use Rattle.rules.specs.Waiting.{countBelow, pendingOf}
 use Rattle.rules.proofs.Bools.{both}
 
 -- the tests agree everywhere
-pub count-same : (p q : ℕ → Bool) (n : ℕ) → ((k : ℕ) → k < n → q k ≡ p k) → count n q ≡ count n p
-unfolding count
+pub count-same : (p q : ℕ → Bool) (n : ℕ) → ((k : ℕ) → k < n → q k ≡ p k) → countBelow n q ≡ countBelow n p
+unfolding countBelow
 count-same p q zero h = refl
-count-same p q (suc n) h = ap₂ (λ (b : Bool) (x : ℕ). one b + x) (h n (le-refl (suc n))) (count-same p q n (λ k l. h k (le-trans l (le-suc n))))
+count-same p q (suc n) h = ap₂ (λ (b : Bool) (x : ℕ). oneIf b + x) (h n (le-refl (suc n))) (count-same p q n (λ k l. h k (le-trans l (le-suc n))))
 
 -- they agree everywhere but at w: q may pass there besides
-pub count-up : (p q : ℕ → Bool) (w n : ℕ) → ((k : ℕ) → k < n → k ≢ w → q k ≡ p k) → count n q ≤ count n p + one (q w)
-unfolding count
+pub count-up : (p q : ℕ → Bool) (w n : ℕ) → ((k : ℕ) → k < n → k ≢ w → q k ≡ p k) → countBelow n q ≤ countBelow n p + oneIf (q w)
+unfolding countBelow
 count-up p q w zero h = omega arith
 count-up p q w (suc n) h = go (count-up p q w n (λ k l. h k (le-trans l (le-suc n)))) (ℕ-discrete n w)
   where
-    go : count n q ≤ count n p + one (q w) → Dec (n ≡ w) → one (q n) + count n q ≤ one (p n) + count n p + one (q w)
+    go : countBelow n q ≤ countBelow n p + oneIf (q w) → Dec (n ≡ w) → oneIf (q n) + countBelow n q ≤ oneIf (p n) + countBelow n p + oneIf (q w)
     go ih (yes e) =
-        omega (arith, count-same p q n (λ k l. h k (le-trans l (le-suc n)) (λ d. omega (arith, d ∙ sym e))), ap (λ (x : ℕ). one (q x)) e)
-    go ih (no d) = omega (arith, ih, ap one (h n (le-refl (suc n)) d))
+        omega (arith, count-same p q n (λ k l. h k (le-trans l (le-suc n)) (λ d. omega (arith, d ∙ sym e))), ap (λ (x : ℕ). oneIf (q x)) e)
+    go ih (no d) = omega (arith, ih, ap oneIf (h n (le-refl (suc n)) d))
 
 -- they agree everywhere but at w, where p passes and q does not
-pub count-down : (p q : ℕ → Bool) (w n : ℕ) → w < n → p w ≡ true → q w ≡ false → ((k : ℕ) → k < n → k ≢ w → q k ≡ p k) → count n q + 1 ≡ count n p
-unfolding count
+pub count-down : (p q : ℕ → Bool) (w n : ℕ) → w < n → p w ≡ true → q w ≡ false → ((k : ℕ) → k < n → k ≢ w → q k ≡ p k) → countBelow n q + 1 ≡ countBelow n p
+unfolding countBelow
 count-down p q w zero l pw qw h = absurd (not-suc-le-zero l)
 count-down p q w (suc n) l pw qw h = go (λ (g : w < n). count-down p q w n g pw qw (λ k l. h k (le-trans l (le-suc n)))) (ℕ-discrete n w)
   where
-    go : (w < n → count n q + 1 ≡ count n p) → Dec (n ≡ w) → one (q n) + count n q + 1 ≡ one (p n) + count n p
+    go : (w < n → countBelow n q + 1 ≡ countBelow n p) → Dec (n ≡ w) → oneIf (q n) + countBelow n q + 1 ≡ oneIf (p n) + countBelow n p
     go ih (yes e) =
         omega (
           arith,
           count-same p q n (λ k l. h k (le-trans l (le-suc n)) (λ d. omega (arith, d ∙ sym e))),
-          ap (λ (x : ℕ). one (q x)) e ∙ ap one qw,
-          ap (λ (x : ℕ). one (p x)) e ∙ ap one pw,
+          ap (λ (x : ℕ). oneIf (q x)) e ∙ ap oneIf qw,
+          ap (λ (x : ℕ). oneIf (p x)) e ∙ ap oneIf pw,
         )
-    go ih (no d) = omega (arith, ih (omega arith), ap one (h n (le-refl (suc n)) d))
+    go ih (no d) = omega (arith, ih (omega arith), ap oneIf (h n (le-refl (suc n)) d))
 
 -- ---- the pending sources of a set, counted before and after
 
@@ -62,12 +62,12 @@ module _ (cs : List Channel) (m m' : Image) (r : ℕ → Bool) where
   unfolding pendingOf
   pendingOf-same h = count-same (counts m cs r) (counts m' cs r) (sources cs) (λ k g. counts-same k (h k g))
 
-  one-and : (a b : Bool) → one (a && b) ≤ one b
+  one-and : (a b : Bool) → oneIf (a && b) ≤ oneIf b
   one-and true b = omega arith
   one-and false b = omega arith
 
   -- one more may be pending
-  pub pendingOf-up : (w : ℕ) → ((k : ℕ) → k < sources cs → k ≢ w → pending m' cs k ≡ pending m cs k) → pendingOf m' cs r ≤ pendingOf m cs r + one (r w)
+  pub pendingOf-up : (w : ℕ) → ((k : ℕ) → k < sources cs → k ≢ w → pending m' cs k ≡ pending m cs k) → pendingOf m' cs r ≤ pendingOf m cs r + oneIf (r w)
   unfolding pendingOf
   pendingOf-up w h = omega (arith, count-up (counts m cs r) (counts m' cs r) w (sources cs) (λ k g n. counts-same k (h k g n)), one-and (pending m' cs w) (r w))
 

@@ -11,7 +11,7 @@ use Rattle.rules.specs.declared.Step.{Step}
 use Rattle.rules.specs.Image.{Image, state}
 use Rattle.rules.specs.Sources.{sources, pending}
 use Rattle.rules.specs.Steps.{stepOf}
-use Rattle.rules.specs.Runs.{Event, any, counted, history, stateAfter, eventAcknowledges, acknowledgedIn}
+use Rattle.rules.specs.Runs.{Event, anyEvent, counted, history, stateAfter, eventAcknowledges, acknowledgedIn}
 use Rattle.rules.specs.Waiting.{rival, pendingOf, triggersOf, Start, Calls, InTime, Kept, Demand3}
 use Rattle.rules.proofs.Bools.{or-l, not-both}
 use Rattle.rules.proofs.Effects.{call-same}
@@ -24,13 +24,13 @@ Both m cs s r es n = InTime s (pendingOf m cs r + triggersOf r es) (take n es) �
 module _ (cs : List Channel) (s : ℕ) (r : ℕ → Bool) where
   -- of no events
   none-yet : (m : Image) (es : List Event) → Start m cs s → Both m cs s r es 0
-  unfolding any counted stateAfter
+  unfolding anyEvent counted stateAfter
   none-yet m es a = (λ h. absurd (omega arith), λ e. a .waits)
 
   -- one event more in front
   one-more : (e : Event) (es : List Event) (n : ℕ) → Law cs s r e
       → (pending (e .outcome .state .image) cs s ≡ true → Both (e .outcome .state .image) cs s r es n) → Both (e .before .image) cs s r (e ∷ es) (suc n)
-  unfolding any counted stateAfter
+  unfolding anyEvent counted stateAfter
   one-more e es n (inl k) ih =
       let t : acknowledgedIn s (take (suc n) (e ∷ es)) ≡ true = or-l (eventAcknowledges s e) (acknowledgedIn s (take n es)) k in
       (λ h. t, λ f. absurd (not-both _ t f))

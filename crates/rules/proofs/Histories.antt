@@ -13,7 +13,7 @@ use Rattle.rules.specs.declared.Step.{Step}
 use Rattle.rules.specs.declared.Answer.{Answer}
 use Rattle.rules.specs.Image.{State}
 use Rattle.rules.specs.Steps.{stepOf}
-use Rattle.rules.specs.Runs.{isArbitration, madeArbitration, arbitrationsIn, Event, history, stateAfter, any, one, counted, until, eventRefused, stepsDone, runEvents, lastAnswer, eventAcknowledges, acknowledgedIn, waitEvents}
+use Rattle.rules.specs.Runs.{isArbitration, madeArbitration, arbitrationsIn, Event, history, stateAfter, anyEvent, oneIf, counted, until, eventRefused, stepsDone, runEvents, lastAnswer, eventAcknowledges, acknowledgedIn, waitEvents}
 use Rattle.rules.proofs.Refusals.{refused-same}
 
 -- ---- lists of steps and of events, cut in two
@@ -50,10 +50,10 @@ last-append a [] fs = refl
 last-append a (e ∷ es) fs = last-append (e .outcome .answer) es fs
 
 -- one of a kind is in the first or in the second part
-pub any-append : (p : Event → Bool) (es fs : List Event) → any p (es ++ fs) ≡ (any p es || any p fs)
-unfolding any
+pub any-append : (p : Event → Bool) (es fs : List Event) → anyEvent p (es ++ fs) ≡ (anyEvent p es || anyEvent p fs)
+unfolding anyEvent
 any-append p [] fs = refl
-any-append p (e ∷ es) fs = ap (λ (b : Bool). p e || b) (any-append p es fs) ∙ sym (or-assoc (p e) (any p es) (any p fs))
+any-append p (e ∷ es) fs = ap (λ (b : Bool). p e || b) (any-append p es fs) ∙ sym (or-assoc (p e) (anyEvent p es) (anyEvent p fs))
 
 -- the number of a kind is that of the first part and that of the second
 pub counted-append : (p : Event → Bool) (es fs : List Event) → counted p (es ++ fs) ≡ counted p es + counted p fs
@@ -63,7 +63,7 @@ counted-append p (e ∷ es) fs = omega (arith, counted-append p es fs)
 
 -- one of the events is refused
 abbrev pub refusedIn : List Event → Bool
-refusedIn es = any eventRefused es
+refusedIn es = anyEvent eventRefused es
 
 -- ---- up to the first event of a kind
 
@@ -80,23 +80,23 @@ module _ (p : Event → Bool) where
       go false h = (suc (h .0), omega arith, ap (λ (fs : List Event). e ∷ fs) (h .2))
 
   -- with none of the kind it is all of them
-  pub until-whole : (es : List Event) → any p es ≡ false → until p es ≡ es
-  unfolding any until
+  pub until-whole : (es : List Event) → anyEvent p es ≡ false → until p es ≡ es
+  unfolding anyEvent until
   until-whole [] h = refl
   until-whole (e ∷ es) h = go (p e) h (until-whole es)
     where
-      go : (b : Bool) → (b || any p es) ≡ false → (any p es ≡ false → until p es ≡ es) → (e ∷ cond b [] (until p es)) ≡ e ∷ es
+      go : (b : Bool) → (b || anyEvent p es) ≡ false → (anyEvent p es ≡ false → until p es ≡ es) → (e ∷ cond b [] (until p es)) ≡ e ∷ es
       go true h ih = absurd (false≢true (sym h))
       go false h ih = ap (λ (fs : List Event). e ∷ fs) (ih h)
 
   -- with none of the kind it goes on, and with one it stops there
-  pub until-append : (es fs : List Event) (b : Bool) → any p es ≡ b → until p (es ++ fs) ≡ cond b (until p es) (es ++ until p fs)
-  unfolding any until
+  pub until-append : (es fs : List Event) (b : Bool) → anyEvent p es ≡ b → until p (es ++ fs) ≡ cond b (until p es) (es ++ until p fs)
+  unfolding anyEvent until
   until-append [] fs true h = absurd (false≢true h)
   until-append [] fs false h = refl
   until-append (e ∷ es) fs b h = go (p e) b h (until-append es fs b)
     where
-      go : (c b : Bool) → (c || any p es) ≡ b → (any p es ≡ b → until p (es ++ fs) ≡ cond b (until p es) (es ++ until p fs))
+      go : (c b : Bool) → (c || anyEvent p es) ≡ b → (anyEvent p es ≡ b → until p (es ++ fs) ≡ cond b (until p es) (es ++ until p fs))
           → (e ∷ cond c [] (until p (es ++ fs))) ≡ cond b (e ∷ cond c [] (until p es)) (e ∷ (es ++ until p fs))
       go true true h ih = refl
       go true false h ih = absurd (false≢true (sym h))
@@ -183,18 +183,18 @@ done-after q s cs (x ∷ xs) = go (eventRefused e) (q e) refl (refused-same s cs
     rest : List Event
     rest = until eventRefused (history t cs xs)
 
-    none-made : eventRefused e ≡ true → one (madeArbitration e) + 0 ≡ 0
-    none-made r = rw r (ap (λ (b : Bool). one b + 0) (and-false (isArbitration x)))
+    none-made : eventRefused e ≡ true → oneIf (madeArbitration e) + 0 ≡ 0
+    none-made r = rw r (ap (λ (b : Bool). oneIf b + 0) (and-false (isArbitration x)))
 
     go : (b c : Bool) → eventRefused e ≡ b → (b ≡ true → t ≡ s) → After t cs xs (until q rest)
         → (stateAfter t (cond c [] (until q (cond b [] rest)))
-        ≡ stateAfter s (history s cs (take (one (not b) + stepsDone (cond c [] (until q (cond b [] rest)))) (x ∷ xs))))
-        × (one (madeArbitration e) + arbitrationsIn (cond c [] (until q (cond b [] rest)))
-        ≡ arbitrationsIn (history s cs (take (one (not b) + stepsDone (cond c [] (until q (cond b [] rest)))) (x ∷ xs))))
+        ≡ stateAfter s (history s cs (take (oneIf (not b) + stepsDone (cond c [] (until q (cond b [] rest)))) (x ∷ xs))))
+        × (oneIf (madeArbitration e) + arbitrationsIn (cond c [] (until q (cond b [] rest)))
+        ≡ arbitrationsIn (history s cs (take (oneIf (not b) + stepsDone (cond c [] (until q (cond b [] rest)))) (x ∷ xs))))
     go true true r k ih = (k refl, none-made r)
     go true false r k ih = (k refl, none-made r)
     go false true r k ih = (refl, refl)
-    go false false r k ih = (rw one-add (ih .0), rw one-add (ap (λ (n : ℕ). one (madeArbitration e) + n) (ih .1)))
+    go false false r k ih = (rw one-add (ih .0), rw one-add (ap (λ (n : ℕ). oneIf (madeArbitration e) + n) (ih .1)))
 
 -- so it is of a run
 pub run-after : (s : State) (cs : List Channel) (xs : List Step) → After s cs xs (runEvents s cs xs)

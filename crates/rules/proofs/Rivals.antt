@@ -17,7 +17,7 @@ use Rattle.rules.specs.Outcomes.{isRefused}
 use Rattle.rules.specs.Sources.{sources}
 use Rattle.rules.specs.Triggers.{triggerVerdict, selects, selectsTop, fire, triggerOf}
 use Rattle.rules.specs.Steps.{actOf, stepOf}
-use Rattle.rules.specs.Runs.{Event, history, stateAfter, one, counted}
+use Rattle.rules.specs.Runs.{Event, history, stateAfter, oneIf, counted}
 use Rattle.rules.specs.Waiting.{rival, within, triggers, triggersOf, E, Calm, Calls}
 use Rattle.rules.proofs.Refusals.{accepted-acts}
 use Rattle.rules.proofs.Views.{Same, same-refl, same-trans}
@@ -46,7 +46,7 @@ rivals-same m cs s a g xs c n =
 -- E with the masks and levels on the image that each trigger gets
 abbrev pub triggersThen : List Channel → ℕ → List Event → ℕ
 triggersThen cs s [] = 0
-triggersThen cs s (e ∷ es) = one (triggers (rival (e .before .image) cs s) e) + triggersThen cs s es
+triggersThen cs s (e ∷ es) = oneIf (triggers (rival (e .before .image) cs s) e) + triggersThen cs s es
 
 module _ (m : Image) (cs : List Channel) (a : Calm m cs) (r q : ℕ → Bool) (same : (k : ℕ) → k < sources cs → r k ≡ q k) where
   within-same : (o : Option ℕ) → ((w : ℕ) → o ≡ some w → w < sources cs) → within r o ≡ within q o
@@ -80,7 +80,7 @@ E-by cs s r g [] m a hr c = refl
 E-by cs s r g (x ∷ xs) m a hr c =
     let m' = stepOf (state m) cs x .state .image in
     let q = call-same m cs a x (c .0) in
-    ap₂ (λ (t : Bool) (n : ℕ). one t + n) (triggers-same m cs a r (rival m cs s) (λ k h. sym (hr k h)) x)
+    ap₂ (λ (t : Bool) (n : ℕ). oneIf t + n) (triggers-same m cs a r (rival m cs s) (λ k h. sym (hr k h)) x)
     (E-by cs s r g xs m' (calm-same cs m m' q a) (λ k h. rival-same cs m m' q s g k h ∙ hr k h) (c .2))
 
 -- so E may be read with the masks and levels at the start or at each trigger

@@ -18,7 +18,7 @@ use Rattle.rules.specs.declared.Ran.the-variants as ran
 use Rattle.rules.specs.Image.{State}
 use Rattle.rules.specs.Outcomes.{refuses, isRefused, verdictOf}
 use Rattle.rules.specs.Steps.{lentVerdict, stepOf}
-use Rattle.rules.specs.Runs.{Event, history, stateAfter, eventRefused, one, any, counted, until, stepsDone, runEvents, lastAnswer, runOutcome, ranIf, runReport, runIf, runOf}
+use Rattle.rules.specs.Runs.{Event, history, stateAfter, eventRefused, oneIf, anyEvent, counted, until, stepsDone, runEvents, lastAnswer, runOutcome, ranIf, runReport, runIf, runOf}
 use Rattle.rules.proofs.Refusals.{refused-same}
 use Rattle.rules.proofs.Histories.{history-length, after-append, last-append, counted-append, refusedIn, run-goes-on, run-ends, run-whole, run-after}
 
@@ -30,17 +30,17 @@ run-refused s cs xs r v = ap (λ (u : Verdict). runIf u s cs xs) v
 
 -- with none refused, all the steps are done
 done-all : (es : List Event) → refusedIn es ≡ false → stepsDone es ≡ length es
-unfolding any counted
+unfolding anyEvent counted
 done-all [] h = refl
 done-all (e ∷ es) h = go (eventRefused e) h (done-all es)
   where
-    go : (b : Bool) → (b || refusedIn es) ≡ false → (refusedIn es ≡ false → stepsDone es ≡ length es) → one (not b) + stepsDone es ≡ suc (length es)
+    go : (b : Bool) → (b || refusedIn es) ≡ false → (refusedIn es ≡ false → stepsDone es ≡ length es) → oneIf (not b) + stepsDone es ≡ suc (length es)
     go true h ih = absurd (false≢true (sym h))
     go false h ih = omega (arith, ih h)
 
 -- and the last answer is no refusal
 last-accepted : (a : Answer) (es : List Event) → verdictOf a ≡ verdict.Accepted → refusedIn es ≡ false → verdictOf (lastAnswer a es) ≡ verdict.Accepted
-unfolding any lastAnswer
+unfolding anyEvent lastAnswer
 last-accepted a [] f h = f
 last-accepted a (e ∷ es) f h = go (verdictOf (e .outcome .answer)) h (last-accepted (e .outcome .answer) es)
   where
@@ -72,7 +72,7 @@ pub refused-midway : (s : State) (cs : List Channel) (ys : List Step) (x : Step)
     → lentVerdict s cs ≡ verdict.Accepted → refusedIn (history s cs ys) ≡ false
     → stepOf (stateAfter s (history s cs ys)) cs x .answer ≡ answer.Refused r
     → runOf s cs (ys ++ (x ∷ zs)) ≡ runOutcome (ran.RefusedAt r (length ys)) (stateAfter s (history s cs ys))
-unfolding any counted until history stateAfter lastAnswer
+unfolding anyEvent counted until history stateAfter lastAnswer
 refused-midway s cs ys x zs r v h p =
     let es : List Event = history s cs ys in
     let t : State = stateAfter s es in
@@ -80,7 +80,7 @@ refused-midway s cs ys x zs r v h p =
     let f : eventRefused e ≡ true = ap isRefused p in
     run-told s cs (ys ++ (x ∷ zs)) v (es ++ (e ∷ [])) (length ys) (answer.Refused r) t
     (run-goes-on s cs ys (x ∷ zs) h ∙ ap (λ (b : Bool). es ++ (e ∷ cond b [] (runEvents (stepOf t cs x .state) cs zs))) f)
-    (omega (arith, counted-append (λ e. not (eventRefused e)) es (e ∷ []), done-all es h, history-length s cs ys, ap (λ (b : Bool). one (not b)) f))
+    (omega (arith, counted-append (λ e. not (eventRefused e)) es (e ∷ []), done-all es h, history-length s cs ys, ap (λ (b : Bool). oneIf (not b)) f))
     (last-append answer.NoStep es (e ∷ []) ∙ p) (after-append s es (e ∷ []) ∙ refused-same t cs x f)
 
 -- steps after a refused one are never looked at, whatever they are

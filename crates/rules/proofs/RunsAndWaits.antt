@@ -15,7 +15,7 @@ use Rattle.rules.specs.declared.Verdict.the-variants as verdict
 use Rattle.rules.specs.Image.{Image, state}
 use Rattle.rules.specs.Outcomes.{verdictOf, refuses}
 use Rattle.rules.specs.Sources.{pending}
-use Rattle.rules.specs.Runs.{Event, history, stateAfter, eventRefused, one, stepsDone, runEvents, lastAnswer, runReport, runOf, acknowledges, eventAcknowledges, acknowledgedIn, arbitrationsIn, isArbitration, any, counted, until, waitEvents, waitedIf, waitReport, waitOf}
+use Rattle.rules.specs.Runs.{Event, history, stateAfter, eventRefused, oneIf, stepsDone, runEvents, lastAnswer, runReport, runOf, acknowledges, eventAcknowledges, acknowledgedIn, arbitrationsIn, isArbitration, anyEvent, counted, until, waitEvents, waitedIf, waitReport, waitOf}
 use Rattle.rules.specs.Waiting.{H, E, Start, Calls, InTime, Kept, RunDemand3, WaitWithin, WaitDemand3}
 use Rattle.rules.proofs.Bools.{not-both}
 use Rattle.rules.proofs.Refusals.{lent-accepted}
@@ -52,13 +52,13 @@ module _ (s : ℕ) where
   Bounded b es c =
       c ≤ b → ((n : ℕ) → b < c + arbitrationsIn (take n es) → acknowledgedIn s (take n es) ≡ true) → c + arbitrationsIn es ≤ b + 1
 
-  one-le : (t : Bool) → one t ≤ 1
+  one-le : (t : Bool) → oneIf t ≤ 1
   one-le true = omega arith
   one-le false = omega arith
 
   -- so it is of events that end with the acknowledgement
   until-bounded : (b : ℕ) (es : List Event) (c : ℕ) → Bounded b (until (eventAcknowledges s) es) c
-  unfolding until any counted
+  unfolding until anyEvent counted
   until-bounded b [] c l h = omega arith
   until-bounded b (e ∷ es) c l h = go (until (eventAcknowledges s) es) (eventAcknowledges s e) refl (until-bounded b es) h
     where
@@ -67,7 +67,7 @@ module _ (s : ℕ) where
           → c + arbitrationsIn (e ∷ cond t [] us) ≤ b + 1
       go us true d ih h = omega (arith, one-le (isArbitration (e .step) && not (eventRefused e)))
       go us false d ih h =
-          let made = one (isArbitration (e .step) && not (eventRefused e)) in
+          let made = oneIf (isArbitration (e .step) && not (eventRefused e)) in
           let past : (n : ℕ) → b < c + made + arbitrationsIn (take n us) → acknowledgedIn s (take n us) ≡ true =
           λ n g. ap (λ (t : Bool). t || acknowledgedIn s (take n us)) (sym d) ∙ h (suc n) (omega arith) in
           let few : b < c + made → ⊥ = λ g. false≢true (past 0 (omega arith)) in

@@ -21,8 +21,8 @@ use Rattle.rules.specs.Requests.{requestOf, eligible, isAt, wonBy, candi
 use Rattle.rules.specs.Arbitration.{vectorOf, cleared, acknowledged, granted, topLevel, arbitration, arbitrateOf}
 use Rattle.rules.specs.Return.{returned, returnOf}
 use Rattle.rules.specs.Steps.{lentVerdict, actOf, stepOf}
-use Rattle.rules.specs.Runs.{until, lastAnswer, stateAfter, waitEvents, waitReport, waitVerdict, waitOf, Event, any, counted, history, acknowledgedIn, arbitrationsIn, isArbitration}
-use Rattle.rules.specs.Waiting.{outranks, rival, count, pendingOf, H, E, Start, isCall, Calls}
+use Rattle.rules.specs.Runs.{until, lastAnswer, stateAfter, waitEvents, waitReport, waitVerdict, waitOf, Event, anyEvent, counted, history, acknowledgedIn, arbitrationsIn, isArbitration}
+use Rattle.rules.specs.Waiting.{outranks, rival, countBelow, pendingOf, H, E, Start, isCall, Calls}
 use Rattle.rules.specs.Examples.{image, channel, _↤_}
 use Rattle.rules.proofs.Bools.{and-l, and-r}
 
@@ -99,7 +99,7 @@ calls-by (e ∷ es) h =
 pub tight : Start start channels ours × Calls events × (H start channels ours ≡ 2) × (E start channels ours events ≡ 2)
     × (arbitrationsIn (take 15 events) ≡ 4) × (acknowledgedIn ours (take 15 events) ≡ false)
     × (arbitrationsIn events ≡ 5) × (acknowledgedIn ours events ≡ true)
-unfolding start image digit bit putBit pageByte put idcrByte ivrByte dcprByte daprByte dataByte recordsOk member distinct allBytes listOk sources pendingBit pending unmasked dmaEnabled externalLevel level triggerVerdict selects selectsTop sourceEffect raiseSource topEffect raiseTop fire triggerOf requestOf eligible isAt wonBy candidate first winnerOfKind winnerAtLevel winnerOf vectorOf cleared acknowledged granted topLevel arbitration arbitrateOf returned returnOf lentVerdict actOf stepOf history outranks rival count pendingOf any counted
+unfolding start image digit bit putBit pageByte put idcrByte ivrByte dcprByte daprByte dataByte recordsOk member distinct allBytes listOk sources pendingBit pending unmasked dmaEnabled externalLevel level triggerVerdict selects selectsTop sourceEffect raiseSource topEffect raiseTop fire triggerOf requestOf eligible isAt wonBy candidate first winnerOfKind winnerAtLevel winnerOf vectorOf cleared acknowledged granted topLevel arbitration arbitrateOf returned returnOf lentVerdict actOf stepOf history outranks rival countBelow pendingOf anyEvent counted
 tight = (starts, calls-by events refl, refl, refl, refl, refl, refl, refl)
 
 -- the same as a wait report, without the refused request, which would end it: acknowledged with H + E + 1 arbitrations
@@ -109,5 +109,5 @@ accepted = take 6 steps ++ drop 7 steps
 pub wait-tight : Calls (waitEvents (state start) channels ours accepted)
     × (H start channels ours + E start channels ours (waitEvents (state start) channels ours accepted) ≡ 4)
     × (waitOf (state start) channels ours accepted .answer ≡ waited.Acknowledged 5)
-unfolding start image digit bit putBit pageByte put idcrByte ivrByte dcprByte daprByte dataByte recordsOk member distinct allBytes listOk sources pendingBit pending unmasked dmaEnabled externalLevel level triggerVerdict selects selectsTop sourceEffect raiseSource topEffect raiseTop fire triggerOf requestOf eligible isAt wonBy candidate first winnerOfKind winnerAtLevel winnerOf vectorOf cleared acknowledged granted topLevel arbitration arbitrateOf returned returnOf lentVerdict actOf stepOf history outranks rival count pendingOf any counted until lastAnswer stateAfter waitReport waitVerdict waitOf
+unfolding start image digit bit putBit pageByte put idcrByte ivrByte dcprByte daprByte dataByte recordsOk member distinct allBytes listOk sources pendingBit pending unmasked dmaEnabled externalLevel level triggerVerdict selects selectsTop sourceEffect raiseSource topEffect raiseTop fire triggerOf requestOf eligible isAt wonBy candidate first winnerOfKind winnerAtLevel winnerOf vectorOf cleared acknowledged granted topLevel arbitration arbitrateOf returned returnOf lentVerdict actOf stepOf history outranks rival countBelow pendingOf anyEvent counted until lastAnswer stateAfter waitReport waitVerdict waitOf
 wait-tight = (calls-by (waitEvents (state start) channels ours accepted) refl, refl, refl)

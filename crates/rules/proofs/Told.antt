@@ -17,7 +17,7 @@ use Rattle.rules.specs.declared.Ran.the-variants as ran
 use Rattle.rules.specs.declared.Waited.{Waited}
 use Rattle.rules.specs.declared.Waited.the-variants as waited
 use Rattle.rules.specs.Registers.{losses}
-use Rattle.rules.specs.Runs.{one}
+use Rattle.rules.specs.Runs.{oneIf}
 use Rattle.rules.specs.Answers.{refusalNumber, toldVerdict, effectNumber, Told, told, ToldRun, toldRun, toldWait}
 
 -- a function with a way back is injective
@@ -78,7 +78,7 @@ effect-back effect.NotSelected = refl
 effect-back effect.Raised = refl
 effect-back effect.Merged = refl
 
-one-back : (b : Bool) → eqb (one b) 1 ≡ b
+one-back : (b : Bool) → eqb (oneIf b) 1 ≡ b
 one-back true = refl
 one-back false = refl
 

@@ -26,7 +26,7 @@ use Rattle.rules.specs.Triggers.{triggerVerdict, selects, selectsTop, fi
 use Rattle.rules.specs.Arbitration.{acknowledged, granted, arbitrateOf}
 use Rattle.rules.specs.Return.{returned, returnOf}
 use Rattle.rules.specs.Steps.{actOf, stepOf}
-use Rattle.rules.specs.Runs.{Event, eventRefused, one, eventAcknowledges, isArbitration}
+use Rattle.rules.specs.Runs.{Event, eventRefused, oneIf, eventAcknowledges, isArbitration}
 use Rattle.rules.specs.Waiting.{outranks, rival, pendingOf, within, triggers, Calm, Start, isCall}
 use Rattle.rules.proofs.Bools.{true-or, or-l, or-r, both}
 use Rattle.rules.proofs.Refusals.{accepted-acts}
@@ -93,8 +93,8 @@ outranks-total m cs k w n = lex (level m cs k) (level m cs w)
 pub record Onward (cs : List Channel) (s : ℕ) (r : ℕ → Bool) (e : Event) : Type 0 where
   pub unanswered : eventAcknowledges s e ≡ false
   pub still : pending (e .outcome .state .image) cs s ≡ true
-  pub weighed : pendingOf (e .outcome .state .image) cs r + one (isArbitration (e .step) && not (eventRefused e))
-      ≤ pendingOf (e .before .image) cs r + one (triggers r e)
+  pub weighed : pendingOf (e .outcome .state .image) cs r + oneIf (isArbitration (e .step) && not (eventRefused e))
+      ≤ pendingOf (e .before .image) cs r + oneIf (triggers r e)
 
 -- an event acknowledges ours, or goes onward
 abbrev pub Law : List Channel → ℕ → (ℕ → Bool) → Event → Type 0
@@ -106,7 +106,7 @@ event m x o = record { before = state m; step = x; outcome = o }
 
 module _ (m : Image) (cs : List Channel) (s : ℕ) (a : Start m cs s) (r : ℕ → Bool) (hr : (k : ℕ) → k < sources cs → rival m cs s k ≡ r k) where
   -- a trigger's put
-  raised-law : (m' : Image) (o : Option ℕ) → Raised cs m m' o → (pending m' cs s ≡ true) × (pendingOf m' cs r ≤ pendingOf m cs r + one (within r o))
+  raised-law : (m' : Image) (o : Option ℕ) → Raised cs m m' o → (pending m' cs s ≡ true) × (pendingOf m' cs r ≤ pendingOf m cs r + oneIf (within r o))
   raised-law m' none q = (q .rest s (a .there) ∙ a .waits, omega (arith, pendingOf-same cs m m' r (q .rest)))
   raised-law m' (some w) q = (still (ℕ-discrete s w), pendingOf-up cs m m' r w (q .rest))
     where

@@ -22,7 +22,7 @@ use Rattle.rules.specs.Image.{State}
 use Rattle.rules.specs.Outcomes.{verdictOf}
 use Rattle.rules.specs.Sources.{sources}
 use Rattle.rules.specs.Steps.{lentVerdict}
-use Rattle.rules.specs.Runs.{Event, history, stateAfter, any, until, stepsDone, runEvents, lastAnswer, ranIf, runReport, runOf, acknowledges, acknowledgedIn, arbitrationsIn, waitEvents, waitedIf, waitOutcome, waitReport, sourceIf, waitVerdict, waitIf, waitOf, eventAcknowledges}
+use Rattle.rules.specs.Runs.{Event, history, stateAfter, anyEvent, until, stepsDone, runEvents, lastAnswer, ranIf, runReport, runOf, acknowledges, acknowledgedIn, arbitrationsIn, waitEvents, waitedIf, waitOutcome, waitReport, sourceIf, waitVerdict, waitIf, waitOf, eventAcknowledges}
 use Rattle.rules.proofs.Histories.{until-whole, wait-ends, wait-after}
 use Rattle.rules.proofs.Bools.{impossible}
 use Rattle.rules.proofs.AcknowledgedBy.{acknowledges-accepted}
@@ -147,7 +147,7 @@ module _ (s : ℕ) where
   -- up to the acknowledgement, the last answer tells whether there is one
   pub last-tells : (es : List Event) (a : Answer) → acknowledges s a ≡ false
       → acknowledges s (lastAnswer a (until (eventAcknowledges s) es)) ≡ acknowledgedIn s (until (eventAcknowledges s) es)
-  unfolding lastAnswer until any
+  unfolding lastAnswer until anyEvent
   last-tells [] a f = f
   last-tells (e ∷ es) a f = go (eventAcknowledges s e) refl (last-tells es (e .outcome .answer))
     where
@@ -160,7 +160,7 @@ module _ (s : ℕ) where
 
   -- the acknowledgement is among the events up to it
   until-acknowledged : (es : List Event) → acknowledgedIn s (until (eventAcknowledges s) es) ≡ acknowledgedIn s es
-  unfolding any until
+  unfolding anyEvent until
   until-acknowledged [] = refl
   until-acknowledged (e ∷ es) = go (eventAcknowledges s e) (until-acknowledged es)
     where

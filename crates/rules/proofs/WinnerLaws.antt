@@ -15,7 +15,7 @@ use Rattle.rules.specs.declared.Winner.{Winner}
 use Rattle.rules.specs.declared.Winner.the-variants as winner
 use Rattle.rules.specs.Image.{Image, at, has, IEN, CPL}
 use Rattle.rules.specs.Sources.{sources, pending, unmasked, dmaEnabled, level}
-use Rattle.rules.specs.Requests.{requestOf, eligible, isAt, wonBy, candidate, orElse, first, winnerOfKind, winnerAtLevel, winnerOf}
+use Rattle.rules.specs.Requests.{requestOf, eligible, isAt, wonBy, candidate, orWinner, first, winnerOfKind, winnerAtLevel, winnerOf}
 use Rattle.rules.specs.Waiting.{outranks}
 use Rattle.rules.proofs.RequestLaws.{eligible-dma, eligible-interrupt, is-dma, is-interrupt, is-kind, dma-request, interrupt-request}
 use Rattle.rules.proofs.Bools.{impossible, and-l, and-r, or-cases, not-both}
@@ -32,7 +32,7 @@ dma-somebody s e = impossible (cc)
 interrupt-somebody : (s l : ℕ) → Somebody (winner.Interrupt s l)
 interrupt-somebody s l e = impossible (cc)
 
-or-none : (a b : Winner) → orElse a b ≡ winner.Nobody → (a ≡ winner.Nobody) × (b ≡ winner.Nobody)
+or-none : (a b : Winner) → orWinner a b ≡ winner.Nobody → (a ≡ winner.Nobody) × (b ≡ winner.Nobody)
 or-none winner.Nobody b e = (refl, e)
 or-none (winner.Dma s) b e = absurd (dma-somebody s e)
 or-none (winner.Interrupt s l) b e = absurd (interrupt-somebody s l e)
@@ -62,7 +62,7 @@ module _ (f : ℕ → Winner) where
       more : Found n f w → Found (suc n) f w
       more q = record { place = q .place; below = omega (arith, q .below); here = q .here; before = q .before }
 
-      go : (o : Winner) → first n f ≡ o → (first n f ≡ w → Somebody w → Found n f w) → orElse o (f n) ≡ w → Found (suc n) f w
+      go : (o : Winner) → first n f ≡ o → (first n f ≡ w → Somebody w → Found n f w) → orWinner o (f n) ≡ w → Found (suc n) f w
       go winner.Nobody d ih e = record { place = n; below = le-refl (suc n); here = e; before = first-none n d }
       go (winner.Dma k) d ih e = more (ih (d ∙ e) s)
       go (winner.Interrupt k l) d ih e = more (ih (d ∙ e) s)

@@ -14,7 +14,7 @@ use Rattle.rules.specs.declared.Ran.{Ran}
 use Rattle.rules.specs.declared.Ran.the-variants as ran
 use Rattle.rules.specs.declared.Waited.{Waited}
 use Rattle.rules.specs.declared.Waited.the-variants as waited
-use Rattle.rules.specs.Runs.{one}
+use Rattle.rules.specs.Runs.{oneIf}
 
 -- the refusal numbers
 abbrev pub refusalNumber : Refusal → ℕ
@@ -57,7 +57,7 @@ told (answer.Triggered e f) = tell 3 (effectNumber e) (effectNumber f) 0
 told answer.Nothing = tell 4 0 0 0
 told answer.TopLevel = tell 5 0x04 0 0
 told (answer.Interrupt s l v) = tell 6 s l v
-told (answer.Transferred s e) = tell 7 s (one e) 0
+told (answer.Transferred s e) = tell 7 s (oneIf e) 0
 told answer.Returned = tell 8 0 0 0
 told answer.Reset = tell 9 0 0 0
 told (answer.Refused r) = tell 10 (refusalNumber r) 0 0

@@ -40,15 +40,15 @@ unfoldable pub candidate : Image → List Channel → ℕ → ℕ → ℕ → Wi
 candidate m cs l kind s = cond (eligible m (requestOf m cs s) && isAt l kind (requestOf m cs s)) (wonBy l kind s) winner.Nobody
 
 -- the first of two that is somebody
-abbrev pub orElse : Winner → Winner → Winner
-orElse winner.Nobody other = other
-orElse (winner.Dma s) other = winner.Dma s
-orElse (winner.Interrupt s l) other = winner.Interrupt s l
+abbrev pub orWinner : Winner → Winner → Winner
+orWinner winner.Nobody other = other
+orWinner (winner.Dma s) other = winner.Dma s
+orWinner (winner.Interrupt s l) other = winner.Interrupt s l
 
 -- the first of f 0, f 1, .. f (n - 1) that is somebody
 unfoldable pub first : ℕ → (ℕ → Winner) → Winner
 first zero f = winner.Nobody
-first (suc n) f = let last = f n in orElse (first n f) last
+first (suc n) f = let last = f n in orWinner (first n f) last
 
 -- rule 5: positions from 0 up,
 unfoldable pub winnerOfKind : Image → List Channel → ℕ → ℕ → Winner

@@ -40,18 +40,18 @@ stateAfter s [] = s
 stateAfter s (e ∷ es) = stateAfter (e .outcome .state) es
 
 -- one of the events is of a kind, which is a test of events
-unfoldable pub any : (Event → Bool) → List Event → Bool
-any p [] = false
-any p (e ∷ es) = p e || any p es
+unfoldable pub anyEvent : (Event → Bool) → List Event → Bool
+anyEvent p [] = false
+anyEvent p (e ∷ es) = p e || anyEvent p es
 
 -- 1 where a test holds, else 0
-abbrev pub one : Bool → ℕ
-one b = cond b 1 0
+abbrev pub oneIf : Bool → ℕ
+oneIf b = cond b 1 0
 
 -- how many of the events are of a kind
 unfoldable pub counted : (Event → Bool) → List Event → ℕ
 counted p [] = 0
-counted p (e ∷ es) = one (p e) + counted p es
+counted p (e ∷ es) = oneIf (p e) + counted p es
 
 -- the events up to the first of a kind, with it
 unfoldable pub until : (Event → Bool) → List Event → List Event
@@ -125,7 +125,7 @@ eventAcknowledges s e = acknowledges s (e .outcome .answer)
 
 -- the source is acknowledged among the events
 abbrev pub acknowledgedIn : ℕ → List Event → Bool
-acknowledgedIn s es = any (eventAcknowledges s) es
+acknowledgedIn s es = anyEvent (eventAcknowledges s) es
 
 -- an arbitration step
 abbrev pub isArbitration : Step → Bool

@@ -15,7 +15,7 @@ use Rattle.rules.specs.Image.{Image, imageLength, state, has, inService,
 use Rattle.rules.specs.Channels.{listOk}
 use Rattle.rules.specs.Sources.{sources, pending, unmasked, dmaEnabled, level}
 use Rattle.rules.specs.Triggers.{selects}
-use Rattle.rules.specs.Runs.{Event, history, stateAfter, eventRefused, one, counted, acknowledgedIn, arbitrationsIn, isArbitration, runEvents, runOf, waitEvents, waitOf}
+use Rattle.rules.specs.Runs.{Event, history, stateAfter, eventRefused, oneIf, counted, acknowledgedIn, arbitrationsIn, isArbitration, runEvents, runOf, waitEvents, waitOf}
 
 -- ---- outranking
 
@@ -30,13 +30,13 @@ rival m cs s k = unmasked m cs k && outranks m cs k s
 -- ---- H: the unmasked sources outranking ours that are pending
 
 -- how many numbers below n pass a test
-unfoldable pub count : ℕ → (ℕ → Bool) → ℕ
-count zero p = 0
-count (suc n) p = one (p n) + count n p
+unfoldable pub countBelow : ℕ → (ℕ → Bool) → ℕ
+countBelow zero p = 0
+countBelow (suc n) p = oneIf (p n) + countBelow n p
 
 -- how many sources of a set are pending
 unfoldable pub pendingOf : Image → List Channel → (ℕ → Bool) → ℕ
-pendingOf m cs among = count (sources cs) (λ k. pending m cs k && among k)
+pendingOf m cs among = countBelow (sources cs) (λ k. pending m cs k && among k)
 
 -- H: of the unmasked sources outranking ours
 abbrev pub H : Image → List Channel → ℕ → ℕ
