@@ -9,7 +9,7 @@ use lib.Arith.{digits-div}
 use lib.Pow.{shr-shr}
 use native.Mathlib.Omega.{arith}
 use lib.Dec.{T, eqb, leb, eqb→eq}
-use lib.Bits.{bitAnd, bitOr, and-step, or-step, or-shr, or-mod, and-shr, and-mod, or-zero-r, and-mask, and-lt, or-lt}
+use lib.Bits.{bitAnd, bitOr, and-step, or-step, or-shr, or-mod, and-shr, and-mod, or-zero-r, and-mask}
 use borrow.Author.Tests.{eq-eqb, ne-eqb, le-leb}
 use Rattle.bits.specs.Bits.{digit, bit, putBit}
 use Rattle.bits.proofs.Tests.{every, passes, passes₂, same-below, fails}
@@ -131,12 +131,6 @@ bit-same k v b h = bit-put k k v b h h ∙ ap (λ (t : Bool). cond t v (bit k b)
 -- another bit
 pub bit-other : (j k : ℕ) (v : Bool) (b : ℕ) → j < 8 → k < 8 → j ≢ k → bit j (putBit k v b) ≡ bit j b
 bit-other j k v b hj hk d = bit-put j k v b hj hk ∙ ap (λ (t : Bool). cond t v (bit j b)) (ne-eqb j k d)
-
--- a byte stays a byte
-pub put-lt : (k : ℕ) (v : Bool) (b : ℕ) → k < 8 → b < 256 → putBit k v b < 256
-unfolding putBit
-put-lt k true b hk hb = or-lt 8 b (2 ^ k) hb (pow-byte k hk)
-put-lt k false b hk hb = and-lt 8 b (255 - 2 ^ k) hb (omega arith)
 
 -- ---- the low field: the n low bits as a number, where a bit above them is put
 

@@ -26,7 +26,8 @@ ghost use lib.ListN.{length};
 ghost use Rattle.rules.specs.Image.{imageLength};
 ghost use Rattle.rules.specs.Channels.{mostRecords, listOk, listOf};
 ghost use Rattle.rules.specs.Outcomes.{change};
-ghost use Rattle.rules.specs.Registers.{pageZero, recordPlace, recordsPlace, placeOf, readOf, storedByte, lostBits, writeOf, resetOf, viewVerdict, viewOf};
+ghost use Rattle.rules.specs.Registers.{pageZero, recordPlace, recordsPlace, placeOf, readOf, storedByte, lostBits, writeOf, resetOf, viewVerdict};
+ghost use Rattle.rules.specs.Promises.{Views};
 
 // Where a register of page 0 goes.
 fn page_zero(register: u8) -> Place
@@ -177,7 +178,7 @@ pub fn view_verdict(image: &[u8], page: u32) -> Verdict
 
 // The sixteen bytes of a page, as stored: a part of the image, empty where the view is refused.
 pub fn view(image: &[u8], page: u32) -> &[u8]
-    ensures { λ v. ⌜ now v ≡ viewOf (now (image .entry)) page ⌝ }
+    ensures { λ v. ⌜ Views (now (image .entry)) page (now v) ⌝ }
 {
     match view_verdict(image, page) {
         Verdict::Accepted => {

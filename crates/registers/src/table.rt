@@ -4,8 +4,7 @@ use rules::ROW_COUNT;
 ghost use mathlib.Core.Path.{_≡_};
 ghost use mathlib.Core.List.{map};
 ghost use Prim.Native.Nat.{_<_};
-ghost use lib.ListN.{getD};
-ghost use Rattle.rules.specs.Table.{Row, noRow, rows, rowCount, rowPlace, existingBits};
+ghost use Rattle.rules.specs.Table.{Row, rows, rowAt, rowCount, rowPlace, existingBits};
 
 // The bits that exist: all but PPR's bits 1:0.
 const EXISTING: [u8; ROW_COUNT] = [
@@ -88,7 +87,7 @@ const RESET_BYTES: [u8; ROW_COUNT] = [
 // The bits that exist of row k.
 fn existing_at(k: usize) -> u8
     requires { ⌜ k < rowCount ⌝ }
-    ensures { λ e. ⌜ e ≡ getD rows k noRow .existing ⌝ }
+    ensures { λ e. ⌜ e ≡ rowAt k .existing ⌝ }
 {
     EXISTING[k]
 }

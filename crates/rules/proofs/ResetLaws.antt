@@ -7,7 +7,7 @@ use native.Mathlib.Omega.{arith}
 use native.Mathlib.Decide.{ℕ-discrete}
 use lib.Dec.{eqb, ltb, leb}
 use lib.Bits.{bitAnd, and-zero-r, or-zero-l, or-zero-r}
-use lib.ListN.{length, getD, set, length-set}
+use lib.ListN.{length, set, length-set}
 use lib.Seq.{getD-set-same, getD-set-other, set-getD}
 use borrow.Author.Tests.{ne-eqb, eqb-true, ltb-true, lt-leb}
 use Rattle.bits.specs.Bits.{digit, bit}
@@ -16,15 +16,11 @@ use Rattle.bits.proofs.Tests.{passes, passes₂, same-below, holds}
 use Rattle.rules.specs.declared.Answer.the-variants as answer
 use Rattle.rules.specs.Image.{Image, imageLength, at, CICR, MODER, EITR, EIPR, EIMR, EIPLR, EIVR, NICR, MARK}
 use Rattle.rules.specs.Channels.{between}
-use Rattle.rules.specs.Table.{Row, noRow, rows, rowCount, rowPlace}
+use Rattle.rules.specs.Table.{Row, rows, rowAt, rowCount, rowPlace}
 use Rattle.rules.specs.Outcomes.{change}
 use Rattle.rules.specs.Registers.{resetByte, resetRow, resetRows, resetOf}
 use Rattle.rules.proofs.Bools.{and-l, and-r, or-cases}
 use Rattle.rules.proofs.ImageLaws.{at-any}
-
--- row k of the table
-abbrev pub rowAt : ℕ → Row
-rowAt k = getD rows k noRow
 
 -- ---- the table
 

@@ -7,7 +7,7 @@ use Prim.Native.Nat.{ℕ, _-_, _≤_, _<_}
 use native.Mathlib.Omega.{arith}
 use native.Mathlib.Decide.{ℕ-discrete}
 use lib.Dec.{eqb}
-use lib.Bits.{bitAnd, bitOr, or-lt, and-le-l}
+use lib.Bits.{bitAnd}
 use lib.ListN.{length, set, length-set}
 use lib.Seq.{getD-set-same, getD-set-other}
 use borrow.Author.Tests.{ne-eqb}
@@ -52,17 +52,6 @@ stored-bit i e old v j h = go (true-or (eqb i NICR))
         ∙ ap₂ _||_ (bit-and j v e) (bit-and j old 0x80 ∙ ap (λ (b : Bool). bit j old && b) (bit-top j h))
         ∙ or-masked (bit j v && bit j e) (bit j old) (eqb j 7))
     go (inr t) = rw t (bit-and j v e)
-
-stored-lt : (i e old v : ℕ) → v < 256 → old < 256 → storedByte i e old v < 256
-unfolding storedByte
-stored-lt i e old v hv ho = go (eqb i NICR)
-  where
-    low : bitAnd v e < 256
-    low = omega (arith, and-le-l v e)
-
-    go : (b : Bool) → cond b (bitOr (bitAnd v e) (bitAnd old 0x80)) (bitAnd v e) < 256
-    go true = or-lt 8 (bitAnd v e) (bitAnd old 0x80) low (omega (arith, and-le-l old 0x80))
-    go false = low
 
 -- a write answers exactly the EIPR bits that it took from 1 to 0
 pub lost-bit : (i old new j : ℕ) → j < 8 → new < 256 → bit j (lostBits i old new) ≡ (eqb i EIPR && (bit j old && not (bit j new)))
@@ -111,10 +100,6 @@ module _ (m : Image) (cs : List Channel) (r i e v : ℕ) (long : length m ≡ im
   pub write-answer : writeOf m cs r v .answer ≡ answer.Written (losses (lostBits i (at m i) (at (writeOf m cs r v .image) i)))
   unfolding writeOf writeAt
   write-answer = rw (write-at, placed)
-
-  -- a byte stays a byte
-  pub write-lt : v < 256 → at m i < 256 → at (writeOf m cs r v .image) i < 256
-  write-lt hv ho = rw write-at (stored-lt i e (at m i) v hv ho)
 
 -- with a page other than 0 selected, a write to R240 to R255 leaves EIPR and answers 00h
 pub write-paged : (m : Image) (cs : List Channel) (r i e v : ℕ) → pageOf m ≢ 0 → 240 ≤ r → placeOf m cs r ≡ At i e

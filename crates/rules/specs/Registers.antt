@@ -5,7 +5,7 @@ use mathlib.Core.List.{List, [], _∷_}
 use Prim.Native.Nat.{ℕ, zero, suc, _-_, _/_}
 use lib.Dec.{eqb, ltb, leb}
 use lib.Bits.{bitAnd, bitOr}
-use lib.ListN.{length, getD, set, take, drop}
+use lib.ListN.{length, set, take, drop}
 use Rattle.rules.specs.declared.Channel.{Channel}
 use Rattle.rules.specs.declared.Place.{Place}
 use Rattle.rules.specs.declared.Place.the-variants.{At, Unmodelled}
@@ -16,7 +16,7 @@ use Rattle.rules.specs.declared.Refusal.the-variants as refusal
 use Rattle.rules.specs.declared.Verdict.{Verdict}
 use Rattle.rules.specs.declared.Verdict.the-variants as verdict
 use Rattle.rules.specs.Image.{Image, imageLength, at, pageByte, PPR, EIPR, NICR, MARK}
-use Rattle.rules.specs.Table.{Row, noRow, rows, rowCount, rowPlace, existingBits}
+use Rattle.rules.specs.Table.{Row, rowAt, rowCount, rowPlace, existingBits}
 use Rattle.rules.specs.Channels.{between}
 use Rattle.rules.specs.Outcomes.{Change, change, refuse}
 
@@ -97,7 +97,7 @@ resetByte w old = bitOr (bitAnd old (255 - w .reset)) (w .value)
 
 -- row k of the table
 unfoldable pub resetRow : ℕ → Image → Image
-resetRow k m = set m (rowPlace k) (resetByte (getD rows k noRow) (at m (rowPlace k)))
+resetRow k m = set m (rowPlace k) (resetByte (rowAt k) (at m (rowPlace k)))
 
 -- the first n rows of the table
 unfoldable pub resetRows : ℕ → Image → Image

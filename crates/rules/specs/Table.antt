@@ -40,6 +40,10 @@ rows =
     ∷ row 0xff 0xff 0x00  -- R247 NICR
     ∷ []
 
+-- row k
+abbrev pub rowAt : ℕ → Row
+rowAt k = getD rows k noRow
+
 -- how many rows there are
 abbrev pub rowCount : ℕ
 rowCount = 22
@@ -50,4 +54,4 @@ rowPlace k = cond (ltb k 16) (224 + k) (226 + k)
 
 -- the bits that exist of R0 to R239 and of R242 to R247 of page 0
 unfoldable pub existingBits : ℕ → ℕ
-existingBits r = cond (ltb r 224) 0xff (cond (ltb r 240) (getD rows (r - 224) noRow .existing) (getD rows (r - 226) noRow .existing))
+existingBits r = cond (ltb r 224) 0xff (cond (ltb r 240) (rowAt (r - 224) .existing) (rowAt (r - 226) .existing))
