@@ -5,7 +5,13 @@ use rules::IMAGE_LENGTH;
 use rules::Refusal;
 use rules::Verdict;
 ghost use mathlib.Core.Path.{_≡_};
+ghost use mathlib.Core.Bool.{not};
+ghost use lib.Dec.{eqb};
+ghost use Rattle.rules.specs.Image.{imageLength};
 ghost use Rattle.rules.specs.Answers.{refusalNumber};
+ghost use Rattle.rules.specs.Runs.{oneIf};
+ghost use Rattle.rules.specs.Waiting.{countBelow};
+ghost use Rattle.report.specs.Changes.{differs};
 
 // Writes text to standard output.
 pub fn text(t: &[u8]) {
@@ -120,18 +126,27 @@ fn changed_byte(i: usize, old: u8, new: u8) {
     byte(new);
 }
 
-// Every byte of the image that changed, in order.
-pub fn changes(before: [u8; IMAGE_LENGTH], after: [u8; IMAGE_LENGTH]) {
-    let mut same = true;
-    for i in 0..IMAGE_LENGTH {
-        let old = before[i];
-        let new = after[i];
-        if old != new {
-            changed_byte(i, old, new);
-            same = false;
-        }
+// One byte, if it changed: answers 1 then, else 0.
+fn change(i: usize, old: u8, new: u8) -> usize
+    ensures { λ n. ⌜ n ≡ oneIf (not (eqb old new)) ⌝ }
+{
+    if old == new {
+        return 0;
     }
-    if same {
+    changed_byte(i, old, new);
+    1
+}
+
+// Every byte of the image that changed, in order, and how many there are.
+pub fn changes(before: [u8; IMAGE_LENGTH], after: [u8; IMAGE_LENGTH]) -> usize
+    ensures { λ n. ⌜ n ≡ countBelow imageLength (differs before after) ⌝ }
+{
+    let mut n: usize = 0;
+    for i in 0..IMAGE_LENGTH {
+        n += change(i, before[i], after[i]);
+    }
+    if n == 0 {
         text(b"; no byte changed");
     }
+    n
 }

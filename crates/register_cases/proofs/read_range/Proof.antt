@@ -1,8 +1,8 @@
 -- Each turn comes nearer to the end.
 use Prim.Native.Nat.{_-_}
 use borrow.Author.Needs.{needs}
-use Rattle.register_cases.proofs.reads.range.Statement.{statement}
-use Rattle.register_cases.proofs.reads.range.Tie as tie
+use Rattle.register_cases.proofs.read_range.Statement.{statement}
+use Rattle.register_cases.proofs.read_range.Tie as tie
 
 abbrev Inv-loop : tie.InvT-loop
 Inv-loop ppr first end register₀ register = Unit
@@ -28,7 +28,7 @@ loop-again c = search needs
 returns : tie.Need-returns Inv-loop μ-loop
 returns c = search needs
 
-pub range-spec : {M : Type 1} → statement M
-range-spec =
+pub read-range-spec : {M : Type 1} → statement M
+read-range-spec =
     tie.close
     (tie.spec Inv-loop μ-loop loop-holds read-requires add-register loop-less loop-again returns)

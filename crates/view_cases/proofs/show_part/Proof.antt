@@ -2,8 +2,8 @@
 use Prim.Native.Nat.{_≤_, _-_}
 use lib.ListN.{length}
 use borrow.Author.Needs.{needs}
-use Rattle.register_cases.proofs.views.show_part.Statement.{statement}
-use Rattle.register_cases.proofs.views.show_part.Tie as tie
+use Rattle.view_cases.proofs.show_part.Statement.{statement}
+use Rattle.view_cases.proofs.show_part.Tie as tie
 
 abbrev Inv-loop : tie.InvT-loop
 Inv-loop part i₀ t5 t6 i = i ≤ length part

@@ -1,8 +1,8 @@
 -- The list is within the rules where `list_ok` says so.
 use mathlib.Core.Path.{sym, _∙_}
 use borrow.Author.Needs.{needs}
-use Rattle.register_cases.proofs.writes.answer_of.Statement.{statement}
-use Rattle.register_cases.proofs.writes.answer_of.Tie as tie
+use Rattle.register_cases.proofs.answer_of_write.Statement.{statement}
+use Rattle.register_cases.proofs.answer_of_write.Tie as tie
 
 list-ok-requires : tie.Need-list-ok-requires
 list-ok-requires c κs = search needs
@@ -16,5 +16,5 @@ returns c = search needs
 returns-2 : tie.Need-returns-2
 returns-2 c = search needs
 
-pub answer-of-spec : {M : Type 1} → statement M
-answer-of-spec = tie.close (tie.spec list-ok-requires write-requires returns returns-2)
+pub answer-of-write-spec : {M : Type 1} → statement M
+answer-of-write-spec = tie.close (tie.spec list-ok-requires write-requires returns returns-2)

@@ -1,8 +1,8 @@
 -- The loop ends at R239.
 use Prim.Native.Nat.{_≤_, _-_}
 use borrow.Author.Needs.{needs}
-use Rattle.register_cases.proofs.writes.to_ones.Statement.{statement}
-use Rattle.register_cases.proofs.writes.to_ones.Tie as tie
+use Rattle.register_cases.proofs.write_to_ones.Statement.{statement}
+use Rattle.register_cases.proofs.write_to_ones.Tie as tie
 
 abbrev Inv-loop : tie.InvT-loop
 Inv-loop register₀ register = register ≤ 240
@@ -28,7 +28,7 @@ loop-again c = search needs
 returns : tie.Need-returns Inv-loop μ-loop
 returns c = search needs
 
-pub to-ones-spec : {M : Type 1} → statement M
-to-ones-spec =
+pub write-to-ones-spec : {M : Type 1} → statement M
+write-to-ones-spec =
     tie.close
     (tie.spec Inv-loop μ-loop loop-holds write-requires add-register loop-less loop-again returns)

@@ -1,5 +1,6 @@
-// Cases of the view, each a line: PPR where it matters, the length of the image, the page, whether it is accepted and the part. Byte i of an image of
-// 1,265 bytes is i mod 251, but for PPR; the other images are zeros.
+// Runs cases of the view, and prints a line for each: PPR where it matters, the length of the image, the page, whether it is accepted and the part.
+// Byte i of an image of 1,265 bytes is i mod 251, but for PPR; the other images are zeros. The expected output, beside this program, is written
+// from document 01.
 use report::text;
 use rules::PPR;
 use samples::counted;
@@ -36,7 +37,7 @@ fn view(ppr: u8, page: u32) {
     show(&image, page);
 }
 
-pub fn pages() {
+fn pages() {
     view(0x00, 0);
     view(0xFF, 0);
     view(0x00, 1);
@@ -52,7 +53,7 @@ pub fn pages() {
     view(0x00, 4294967295);
 }
 
-pub fn lengths() {
+fn lengths() {
     let empty = [0u8; 0];
     let shorter = [0u8; 1264];
     let longer = [0u8; 1266];
@@ -64,4 +65,9 @@ pub fn lengths() {
     show(&longer, 0);
     show(&longer, 63);
     show(&longer, 64);
+}
+
+fn main() {
+    pages();
+    lengths();
 }
