@@ -121,7 +121,8 @@ requests-asks m cs l k p h r = go (r .kinds)
     go (inl q) = record { there = h; allowed = simp (r .waits, q .1, below); is = simp (r .waits, q .1, q .0, at-level) }
     go (inr q) = record { there = h; allowed = simp (r .waits, q .1, q .2, q .3, below); is = simp (r .waits, q .1, q .2, q .0, at-level) }
 
-won-somebody : (l k p : ℕ) → Somebody (wonBy l k p)
+-- it is somebody
+pub won-somebody : (l k p : ℕ) → Somebody (wonBy l k p)
 unfolding wonBy
 won-somebody l k p = go (eqb k 0)
   where

@@ -9,14 +9,56 @@ pub const MOST_RECORDS: usize = 12;
 // The rows of the register table.
 pub const ROW_COUNT: usize = 22;
 
-// The bytes of PPR, EIPR and NICR, and of the top-level-in-service mark.
+// The bytes of the named registers, and of the top-level-in-service mark.
+pub const CICR: usize = 230;
+
 pub const PPR: usize = 234;
 
+pub const EITR: usize = 242;
+
 pub const EIPR: usize = 243;
+
+pub const EIMR: usize = 244;
+
+pub const EIPLR: usize = 245;
+
+pub const EIVR: usize = 246;
 
 pub const NICR: usize = 247;
 
 pub const MARK: usize = 1264;
+
+// The numbers of the bits that the rules name: of CICR,
+pub const TLIP: u8 = 6;
+
+pub const TLI: u8 = 5;
+
+pub const IEN: u8 = 4;
+
+pub const IAM: u8 = 3;
+
+// of EIVR,
+pub const TLTEV: u8 = 3;
+
+pub const TLIS: u8 = 2;
+
+pub const IAOS: u8 = 1;
+
+// of NICR,
+pub const TLNM: u8 = 7;
+
+// and of a record's IDCR.
+pub const IP: u8 = 5;
+
+pub const DM: u8 = 4;
+
+pub const IM: u8 = 3;
+
+// The sources before the records: the external channels.
+pub const EXTERNALS: usize = 8;
+
+// The last register that a DMA pointer may name.
+pub const LAST_REGISTER: usize = 223;
 
 // A channel record: its page, the registers there of its IDCR, IVR, DCPR, DAPR and data (`io`), and the direction of its transfers
 // (0: peripheral to register file, 1: the reverse).

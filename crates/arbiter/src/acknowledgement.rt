@@ -1,0 +1,64 @@
+// What an interrupt that has won gets.
+use crate::nesting::nest;
+use crate::places::put_at;
+use channels::page_byte;
+use rules::Answer;
+use rules::CICR;
+use rules::Channels;
+use rules::EIPR;
+use rules::EIVR;
+use rules::EXTERNALS;
+use rules::IEN;
+use rules::IP;
+ghost use mathlib.Core.Path.{_≡_};
+ghost use mathlib.Core.Bool.{true};
+ghost use Prim.Native.Nat.{_<_};
+ghost use lib.ListN.{length};
+ghost use Rattle.rules.specs.Image.{imageLength};
+ghost use Rattle.rules.specs.Channels.{listOk, listOf};
+ghost use Rattle.rules.specs.Outcomes.{change};
+ghost use Rattle.rules.specs.Sources.{sources};
+ghost use Rattle.rules.specs.Arbitration.{vectorOf, cleared, acknowledged};
+
+// EIVR's upper half plus 2k, or IVR with bit 0 cleared.
+fn vector_of(image: &[u8], all: Channels, source: u8) -> u8
+    requires { ⌜ (length (now image) ≡ imageLength) × (listOk (listOf all) ≡ true) × (source < sources (listOf all)) ⌝ }
+    ensures { λ v. ⌜ v ≡ vectorOf (now (image .entry)) (listOf all) source ⌝ }
+{
+    let s = source as usize;
+    if s < EXTERNALS {
+        return image[EIVR] / 16 * 16 + 2 * source;
+    }
+    let c = all.items[s - EXTERNALS];
+    image[page_byte(c.page, c.ivr)] / 2 * 2
+}
+
+// Clears the source's EIPR or IP bit.
+fn clear_pending(image: &mut [u8], all: Channels, source: u8)
+    requires { ⌜ (length (now image) ≡ imageLength) × (listOk (listOf all) ≡ true) × (source < sources (listOf all)) ⌝ }
+    ensures { λ _. ⌜ now (image .exit) ≡ cleared (now (image .entry)) (listOf all) source ⌝ }
+{
+    let s = source as usize;
+    if s < EXTERNALS {
+        put_at(image, EIPR, source, false);
+        return;
+    }
+    let c = all.items[s - EXTERNALS];
+    put_at(image, page_byte(c.page, c.idcr), IP, false);
+}
+
+// An acknowledgement: in nested mode the levels first; then the source's bit and IEN are cleared.
+pub fn acknowledge(image: &mut [u8], all: Channels, source: u8, level: u8) -> Answer
+    requires { ⌜ (length (now image) ≡ imageLength) × (listOk (listOf all) ≡ true) × (source < sources (listOf all)) × (level < 8) ⌝ }
+    ensures { λ a. ⌜ change a (now (image .exit)) ≡ change (Answer.Interrupt source level (vectorOf (now (image .entry)) (listOf all) source)) (acknowledged (now (image .entry)) (listOf all) source level) ⌝ }
+{
+    let vector = vector_of(image, all, source);
+    nest(image, level);
+    clear_pending(image, all, source);
+    put_at(image, CICR, IEN, false);
+    Answer::Interrupt {
+        source,
+        level,
+        vector,
+    }
+}

@@ -1,0 +1,88 @@
+// What a DMA request that has won gets.
+use crate::places::put_at;
+use bits::has_bit;
+use channels::page_byte;
+use rules::Answer;
+use rules::Channel;
+use rules::DM;
+use rules::IM;
+use rules::IP;
+use rules::LAST_REGISTER;
+use rules::Refusal;
+use std::num::wrapping_sub_u8;
+ghost use mathlib.Core.Path.{_≡_};
+ghost use mathlib.Core.Bool.{true};
+ghost use Prim.Native.Nat.{_≤_, _<_};
+ghost use lib.ListN.{length};
+ghost use Rattle.rules.specs.Image.{imageLength, at};
+ghost use Rattle.rules.specs.Channels.{recordOk, dataByte, idcrByte};
+ghost use Rattle.rules.specs.Outcomes.{change};
+ghost use Rattle.rules.specs.Transfer.{pairOf, lastRegister, movedByte, lessOne, settled, served, transferOf};
+
+// Moves a byte between the data register, at byte `io`, and Ra.
+fn move_byte(image: &mut [u8], c: Channel, io: usize, a: u8)
+    requires { ⌜ (length (now image) ≡ imageLength) × (io ≡ dataByte c) × (io < imageLength) ⌝ }
+    ensures { λ _. ⌜ now (image .exit) ≡ movedByte (now (image .entry)) c a ⌝ }
+{
+    let address = a as usize;
+    if c.direction == 0 {
+        image[address] = image[io];
+    } else {
+        image[io] = image[address];
+    }
+}
+
+// The counter minus one; 0 becomes 255.
+fn less_one(count: u8) -> u8
+    ensures { λ r. ⌜ r ≡ lessOne count ⌝ }
+{
+    wrapping_sub_u8(count, 1)
+}
+
+// IP is cleared; at the end of a block DM is, and IP becomes IM.
+fn settle(image: &mut [u8], c: Channel, idcr: usize, ended: bool)
+    requires { ⌜ (length (now image) ≡ imageLength) × (idcr ≡ idcrByte c) × (idcr < imageLength) ⌝ }
+    ensures { λ _. ⌜ now (image .exit) ≡ settled (now (image .entry)) c ended ⌝ }
+{
+    if ended {
+        let im = has_bit(image[idcr], IM);
+        put_at(image, idcr, DM, false);
+        put_at(image, idcr, IP, im);
+        return;
+    }
+    put_at(image, idcr, IP, false);
+}
+
+// The transfer over the pair Rn, R(n+1). Address and counter are read first; what they become is written after the move.
+fn serve(image: &mut [u8], c: Channel, n: usize, source: u8) -> Answer
+    requires { ⌜ (length (now image) ≡ imageLength) × (recordOk c ≡ true) × (n ≡ pairOf (now image) c) × (n ≤ lastRegister) × (at (now image) n ≤ lastRegister) ⌝ }
+    ensures { λ a. ⌜ change a (now (image .exit)) ≡ served (now (image .entry)) c source ⌝ }
+{
+    let address = image[n];
+    let count = less_one(image[n + 1]);
+    move_byte(image, c, page_byte(c.page, c.io), address);
+    image[n] = address + 1;
+    image[n + 1] = count;
+    let ended = count == 0;
+    settle(image, c, page_byte(c.page, c.idcr), ended);
+    Answer::Transferred { source, ended }
+}
+
+// A DMA service: refused with 5 where DCPR names memory, then with 6 where the pair or the address is over R223.
+pub fn transfer(image: &mut [u8], c: Channel, source: u8) -> Answer
+    requires { ⌜ (length (now image) ≡ imageLength) × (recordOk c ≡ true) ⌝ }
+    ensures { λ a. ⌜ change a (now (image .exit)) ≡ transferOf (now (image .entry)) c source ⌝ }
+{
+    let dcpr = image[page_byte(c.page, c.dcpr)];
+    if dcpr % 2 == 0 {
+        return Answer::Refused(Refusal::Memory);
+    }
+    let n = (dcpr / 2 * 2) as usize;
+    if LAST_REGISTER < n {
+        return Answer::Refused(Refusal::Pointer);
+    }
+    if LAST_REGISTER < (image[n] as usize) {
+        return Answer::Refused(Refusal::Pointer);
+    }
+    serve(image, c, n, source)
+}

@@ -1,0 +1,68 @@
+-- The invariant: the ranks of the channels below k are gathered, whatever the list is.
+use mathlib.Core.Path.{_≡_, refl, ap, _∙_}
+use Prim.Native.Nat.{_-_, _≤_}
+use mathlib.Core.List.{List}
+use native.Mathlib.Nat.{not-suc-le-zero}
+use native.Mathlib.Omega.{arith}
+use borrow.Author.Needs.{needs}
+use lib.ListN.{length, length-set}
+use Rattle.rules.specs.declared.Channel.{Channel}
+use Rattle.requests.specs.Ranks.{rankOf, Gathered, positionLimit}
+use Rattle.requests.proofs.RankLaws.{gathered-more}
+use Rattle.requests.proofs.external_ranks.Statement.{statement}
+use Rattle.requests.proofs.external_ranks.Tie as tie
+
+abbrev Inv-loop : tie.InvT-loop
+Inv-loop image ranks₀ k₀ ranks k = (k ≤ 8) × (length ranks ≡ positionLimit) × ((cs : List Channel) → Gathered image cs k ranks)
+
+abbrev μ-loop : tie.MeasureT-loop
+μ-loop image ranks₀ k₀ ranks k = 8 - k
+
+loop-holds : tie.Need-loop-holds Inv-loop μ-loop
+loop-holds c = (omega arith, refl, λ cs p h. absurd (not-suc-le-zero h))
+
+cast-external-request : tie.Need-cast-external-request Inv-loop μ-loop
+cast-external-request c = search needs
+
+external-request-requires : tie.Need-external-request-requires Inv-loop μ-loop
+external-request-requires c κs = search needs
+
+rank-of-requires : tie.Need-rank-of-requires Inv-loop μ-loop
+rank-of-requires c κs = search needs
+
+array-write-ranks : tie.Need-array-write-ranks Inv-loop μ-loop
+array-write-ranks c = search needs
+
+add-k : tie.Need-add-k Inv-loop μ-loop
+add-k c = search needs
+
+loop-less : tie.Need-loop-less Inv-loop μ-loop
+loop-less c = search needs
+
+loop-again : tie.Need-loop-again Inv-loop μ-loop
+loop-again c =
+    let d = c .before .before .before in
+    let k = d .loop .inv in (
+      omega arith,
+      simp length-set (k .1),
+      λ cs. gathered-more _ cs (d .loop .ranks) (d .loop .k) (c .rank-of .result) (omega (arith, k .1)) (c .rank-of .ensures ∙ ap (rankOf _) (c .before .external-request .ensures cs)) (k .2 cs),
+    )
+
+returns : tie.Need-returns Inv-loop μ-loop
+returns c = let e : c .before .loop .k ≡ 8 = omega arith in rw e at (c .before .loop .inv .2)
+
+pub external-ranks-spec : {M : Type 1} → statement M
+external-ranks-spec =
+    tie.close
+    (tie.spec
+    Inv-loop
+    μ-loop
+    loop-holds
+    cast-external-request
+    external-request-requires
+    rank-of-requires
+    array-write-ranks
+    add-k
+    loop-less
+    loop-again
+    returns)

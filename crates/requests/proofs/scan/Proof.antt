@@ -1,0 +1,153 @@
+-- Three loops with one invariant: nobody so far. A hit is the first of its kind and level, and so the first of all.
+use mathlib.Core.Path.{_≡_, refl, sym, _∙_}
+use Prim.Native.Nat.{_-_, _≤_}
+use native.Mathlib.Omega.{arith}
+use borrow.Author.Needs.{needs}
+use Rattle.rules.specs.declared.Winner.{Winner}
+use Rattle.rules.specs.declared.Winner.the-variants as winner
+use Rattle.rules.specs.Requests.{first}
+use Rattle.rules.proofs.WinnerLaws.{won-somebody}
+use Rattle.requests.specs.Ranks.{found, foundOfKind, foundAtLevel, scanned}
+use Rattle.requests.proofs.FirstLaws.{first-more, first-hit, first-end}
+use Rattle.requests.proofs.RankLaws.{found-none, found-here}
+use Rattle.requests.proofs.scan.Statement.{statement}
+use Rattle.requests.proofs.scan.Tie as tie
+
+abbrev nobody : Winner
+nobody = winner.Nobody
+
+abbrev Inv-loop2 : tie.InvT-loop2
+Inv-loop2 positions ranks winner₀ level kind position₀ winner position =
+    (winner ≡ nobody) × (position ≤ positions) × (first position (found ranks level kind) ≡ nobody)
+
+abbrev μ-loop2 : tie.MeasureT-loop2
+μ-loop2 positions ranks winner₀ level kind position₀ winner position = positions - position
+
+abbrev Inv-loop : tie.InvT-loop
+Inv-loop positions ranks winner₀ level kind₀ winner kind =
+    (winner ≡ nobody) × (kind ≤ 2) × (first kind (foundOfKind ranks positions level) ≡ nobody)
+
+abbrev μ-loop : tie.MeasureT-loop
+μ-loop positions ranks winner₀ level kind₀ winner kind = 2 - kind
+
+abbrev Inv-scan : tie.InvT-scan
+Inv-scan positions ranks winner₀ level₀ winner level =
+    (winner ≡ nobody) × (level ≤ 8) × (first level (foundAtLevel ranks positions) ≡ nobody)
+
+abbrev μ-scan : tie.MeasureT-scan
+μ-scan positions ranks winner₀ level₀ winner level = 8 - level
+
+scan-holds : tie.Need-scan-holds Inv-loop2 μ-loop2 Inv-loop μ-loop Inv-scan μ-scan
+unfolding first
+scan-holds c = (refl, omega arith, refl)
+
+loop-holds : tie.Need-loop-holds Inv-loop2 μ-loop2 Inv-loop μ-loop Inv-scan μ-scan
+unfolding first
+loop-holds c = (c .before .scan .inv .0, omega arith, refl)
+
+loop2-holds : tie.Need-loop2-holds Inv-loop2 μ-loop2 Inv-loop μ-loop Inv-scan μ-scan
+unfolding first
+loop2-holds c = (c .before .loop .inv .0, omega arith, refl)
+
+array-read-if1 : tie.Need-array-read-if1 Inv-loop2 μ-loop2 Inv-loop μ-loop Inv-scan μ-scan
+array-read-if1 c = search needs
+
+mul-if1 : tie.Need-mul-if1 Inv-loop2 μ-loop2 Inv-loop μ-loop Inv-scan μ-scan
+mul-if1 c = search needs
+
+add-if1 : tie.Need-add-if1 Inv-loop2 μ-loop2 Inv-loop μ-loop Inv-scan μ-scan
+add-if1 c = search needs
+
+cast-won : tie.Need-cast-won Inv-loop2 μ-loop2 Inv-loop μ-loop Inv-scan μ-scan
+cast-won c = search needs
+
+won-requires : tie.Need-won-requires Inv-loop2 μ-loop2 Inv-loop μ-loop Inv-scan μ-scan
+won-requires c κs = search needs
+
+add-position : tie.Need-add-position Inv-loop2 μ-loop2 Inv-loop μ-loop Inv-scan μ-scan
+add-position c = search needs
+
+loop2-less : tie.Need-loop2-less Inv-loop2 μ-loop2 Inv-loop μ-loop Inv-scan μ-scan
+loop2-less c = search needs
+
+loop2-again : tie.Need-loop2-again Inv-loop2 μ-loop2 Inv-loop μ-loop Inv-scan μ-scan
+loop2-again c = (
+  c .before .before .loop2 .inv .0,
+  omega arith,
+  first-more _ _ (c .before .before .loop2 .inv .2) (found-none _ _ _ _ (c .if1 .left)),
+)
+
+add-kind : tie.Need-add-kind Inv-loop2 μ-loop2 Inv-loop μ-loop Inv-scan μ-scan
+add-kind c = search needs
+
+loop-less : tie.Need-loop-less Inv-loop2 μ-loop2 Inv-loop μ-loop Inv-scan μ-scan
+loop-less c = search needs
+
+loop-again : tie.Need-loop-again Inv-loop2 μ-loop2 Inv-loop μ-loop Inv-scan μ-scan
+unfolding foundOfKind
+loop-again c = (
+  c .before .loop2 .inv .0,
+  omega arith,
+  first-more _ _ (c .before .before .before .loop .inv .2) (first-end _ _ _ (c .before .loop2 .inv .1) (c .loop2-test .left) (c .before .loop2 .inv .2)),
+)
+
+add-level : tie.Need-add-level Inv-loop2 μ-loop2 Inv-loop μ-loop Inv-scan μ-scan
+add-level c = search needs
+
+scan-less : tie.Need-scan-less Inv-loop2 μ-loop2 Inv-loop μ-loop Inv-scan μ-scan
+scan-less c = search needs
+
+scan-again : tie.Need-scan-again Inv-loop2 μ-loop2 Inv-loop μ-loop Inv-scan μ-scan
+unfolding foundAtLevel
+scan-again c = (
+  c .before .loop .inv .0,
+  omega arith,
+  first-more _ _ (c .before .before .before .scan .inv .2) (first-end _ _ _ (c .before .loop .inv .1) (c .loop-test .left) (c .before .loop .inv .2)),
+)
+
+returns : tie.Need-returns Inv-loop2 μ-loop2 Inv-loop μ-loop Inv-scan μ-scan
+unfolding scanned
+returns c = c .before .scan .inv .0 ∙ sym (first-end _ _ _ (c .before .scan .inv .1) (c .scan-test .left) (c .before .scan .inv .2))
+
+returns-2 : tie.Need-returns-2 Inv-loop2 μ-loop2 Inv-loop μ-loop Inv-scan μ-scan
+unfolding scanned foundAtLevel foundOfKind
+returns-2 c =
+    let p = c .before .before .before in
+    let k = p .before .before in
+    let l = k .before .before in
+    let s = won-somebody (l .scan .level) (k .loop .kind) (p .loop2 .position) in
+    c .won .ensures
+    ∙ sym
+    (first-hit _ 8 _ _ (k .before .scan-test .taken) (l .scan .inv .2)
+    (first-hit _ 2 _ _ (p .before .loop-test .taken) (k .loop .inv .2)
+    (first-hit _ _ _ _ (c .before .before .loop2-test .taken) (p .loop2 .inv .2) (found-here _ _ _ _ (c .before .if1 .taken)) s) s) s)
+
+pub scan-spec : {M : Type 1} → statement M
+scan-spec =
+    tie.close
+    (tie.spec
+    Inv-loop2
+    μ-loop2
+    Inv-loop
+    μ-loop
+    Inv-scan
+    μ-scan
+    scan-holds
+    loop-holds
+    loop2-holds
+    array-read-if1
+    mul-if1
+    add-if1
+    cast-won
+    won-requires
+    add-position
+    loop2-less
+    loop2-again
+    add-kind
+    loop-less
+    loop-again
+    add-level
+    scan-less
+    scan-again
+    returns
+    returns-2)
