@@ -1,3 +1,4 @@
 pub mod RestLaws
 pub mod SeenLaws
 pub mod ItemLaws
+pub mod RegisterLaws

@@ -22,7 +22,7 @@ use Rattle.rules.specs.Outcomes.{refuses}
 use Rattle.rules.specs.Sources.{sources}
 use Rattle.rules.specs.Triggers.{triggerVerdict, edge, selectIf, selects, selectsTop}
 use Rattle.rules.specs.Waiting.{within}
-use Rattle.rules.proofs.Bools.{impossible}
+use Rattle.rules.proofs.Bools.{impossible, or-off}
 
 -- ---- which bits are selected
 
@@ -126,10 +126,6 @@ not-refused false r e = refl
 accepted-if : (b : Bool) (r : Refusal) → cond b verdict.Accepted (verdict.Refused r) ≡ verdict.Accepted → b ≡ true
 accepted-if true r e = refl
 accepted-if false r e = absurd (true≢false (ap refuses e))
-
-or-off : (a b : Bool) → (a || b) ≡ false → a ≡ false
-or-off true b e = absurd (true≢false e)
-or-off false b e = refl
 
 -- an accepted trigger selects a source that there is
 pub selected-there : (m : Image) (cs : List Channel) (t : Trigger) → triggerVerdict cs t ≡ verdict.Accepted → (s : ℕ) → selects m t ≡ some s → s < sources cs

@@ -1,6 +1,5 @@
 -- The invariant: the ranks of the external channels and of the records below k are gathered.
-use mathlib.Core.Path.{_≡_, refl, ap, _∙_}
-use mathlib.Core.List.{List}
+use mathlib.Core.Path.{_≡_, sym, ap, _∙_}
 use Prim.Native.Nat.{ℕ, _+_, _-_, _≤_}
 use native.Mathlib.Omega.{arith}
 use borrow.Author.Needs.{needs}
@@ -8,8 +7,7 @@ use lib.ListN.{length, length-set}
 use denote.Ref.{now}
 use Rattle.rules.specs.Image.{at}
 use Rattle.rules.specs.Channels.{mostRecords, idcrByte, listOf}
-use Rattle.rules.proofs.Twelve.{twelve}
-use Rattle.channels.proofs.ItemLaws.{count-short, item-record, item-in-range, item-on-page}
+use Rattle.channels.proofs.ItemLaws.{count-short, item-taken}
 use Rattle.requests.specs.Ranks.{recordRequest, rankOf, Gathered, positionLimit}
 use Rattle.requests.proofs.RankLaws.{record-requests, gathered-more}
 use Rattle.requests.proofs.ranks_of.Statement.{statement}
@@ -29,7 +27,7 @@ loop-holds : tie.Need-loop-holds Inv-loop μ-loop
 loop-holds c =
     let s = c .before .before in
     let all = s .args .t2 in
-    (omega arith, count-short all (twelve all _ (s .good .1 .0)) (s .pre .1), search needs, c .external-ranks .ensures (listOf all))
+    (omega arith, count-short _ (s .good .1 .0) (s .pre .1), search needs, c .external-ranks .ensures (listOf all))
 
 mul-c : tie.Need-mul-c Inv-loop μ-loop
 mul-c c = search needs
@@ -40,16 +38,15 @@ element-copy-out-c c = search needs
 page-byte-requires : tie.Need-page-byte-requires Inv-loop μ-loop
 page-byte-requires c κs =
     let s = c .before .before .before .before .before in
-    let all = s .args .t2 in
-    item-in-range all (twelve all _ (s .good .1 .0)) (s .pre .1) (c .before .before .loop .k) (c .before .loop-test .taken) .register-low 0 (omega arith)
+    item-taken _ (s .good .1 .0) (s .pre .1) (c .before .before .loop .k) (c .before .loop-test .taken) .range .register-low 0 (omega arith)
 
 shared-slice-read-idcr : tie.Need-shared-slice-read-idcr Inv-loop μ-loop
 unfolding idcrByte
 shared-slice-read-idcr c =
     let d = c .before .before .before in
     let s = d .before .before .before .before in
-    let all = s .args .t2 in
-    omega (arith, c .before .page-byte .ensures, s .pre .0, item-on-page all (twelve all _ (s .good .1 .0)) (s .pre .1) (d .before .loop .k) (d .loop-test .taken) 0 (omega arith))
+    let t = item-taken _ (s .good .1 .0) (s .pre .1) (d .before .loop .k) (d .loop-test .taken) in
+    omega (arith, s .pre .0, t .place 0 (omega arith) _ (c .before .page-byte .ensures) .1)
 
 record-request-requires : tie.Need-record-request-requires Inv-loop μ-loop
 record-request-requires c κs = search needs
@@ -76,7 +73,7 @@ loop-again c =
     let k = d .before .loop .k in
     let s = d .before .before .before .before in
     let all = s .args .t2 in
-    let same = item-record all (twelve all _ (s .good .1 .0)) (s .pre .1) k (d .loop-test .taken) in
+    let same = sym (item-taken _ (s .good .1 .0) (s .pre .1) k (d .loop-test .taken) .same) in
     let asked =
     ap (λ (i : ℕ). recordRequest (at (now (s .args .image)) i)) (c .before .before .before .page-byte .ensures ∙ ap idcrByte same)
     ∙ record-requests _ (listOf all) k in

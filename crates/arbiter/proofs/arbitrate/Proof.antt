@@ -1,0 +1,144 @@
+-- The code makes the definition's tests in its order; past them the winner is the definition's, and each arm is one of `granted`. A DMA winner is
+-- the source of a record, which is within the rules.
+use mathlib.Core.Path.{_≡_, sym, _∙_}
+use Prim.Native.Nat.{_-_, _<_, _≤_}
+use native.Mathlib.Omega.{arith}
+use borrow.Author.Needs.{needs}
+use borrow.Author.Tests.{eq-eqb, ne-eqb}
+use denote.Ref.{now}
+use Rattle.rules.specs.Channels.{listOf}
+use Rattle.rules.specs.Sources.{sources}
+use Rattle.rules.specs.Arbitration.{granted, arbitration}
+use Rattle.channels.proofs.ItemLaws.{Taken}
+use Rattle.arbiter.proofs.SourceLaws.{source-taken, dma-winner, interrupt-winner}
+use Rattle.arbiter.proofs.arbitrate.Statement.{statement}
+use Rattle.arbiter.proofs.arbitrate.Tie as tie
+
+-- past the mark and the top level, the winner decides
+gets :
+    (c : tie.After-winner-of) → arbitration (now (c .before .before .before .before .before .before .before .before .args .image)) (listOf (c .before .before .before .before .before .before .before .before .args .t2))
+    ≡ granted (now (c .before .before .before .before .before .before .before .before .args .image)) (listOf (c .before .before .before .before .before .before .before .before .args .t2)) (c .winner-of .result)
+unfolding arbitration
+gets c =
+    let d = c .before .before in
+    simp (eq-eqb _ _ (d .before .before .before .if1 .left), sym (d .before .top-level .ensures) ∙ d .if2 .left, c .winner-of .ensures)
+
+-- the source of a DMA winner is a record's,
+there : (c : tie.After-source) → (c .source .given .0 .0 < sources (listOf (c .before .before .before .before .before .before .before .before .before .before .args .t2))) × (8 ≤ c .source .given .0 .0)
+there c = dma-winner _ _ _ (sym (c .before .before .winner-of .ensures) ∙ c .source .given .1)
+
+-- which is within the rules
+taken : (c : tie.After-source) → Taken (c .before .before .before .before .before .before .before .before .before .before .args .t2) (c .source .given .0 .0 - 8)
+taken c =
+    let s = c .before .before .before .before .before .before .before .before .before .before in
+    source-taken _ _ (s .good .1 .0) (s .pre .1) (there c .0) (there c .1)
+
+slice-read-if1 : tie.Need-slice-read-if1
+slice-read-if1 c = search needs
+
+returns : tie.Need-returns
+unfolding arbitration
+returns c = simp (ne-eqb _ _ (c .if1 .taken))
+
+top-level-requires : tie.Need-top-level-requires
+top-level-requires c κs = search needs
+
+enter-top-requires : tie.Need-enter-top-requires
+enter-top-requires c κs = search needs
+
+same-length : tie.Need-same-length
+same-length c = search needs
+
+returns-2 : tie.Need-returns-2
+unfolding arbitration
+returns-2 c =
+    let d = c .before .before .before .before in
+    simp (eq-eqb _ _ (d .before .before .before .if1 .left), sym (d .before .top-level .ensures) ∙ d .if2 .taken, c .before .before .enter-top .ensures)
+
+winner-of-requires : tie.Need-winner-of-requires
+winner-of-requires c κs = search needs
+
+enum-told : tie.Need-enum-told
+enum-told c = search needs
+
+enum-known-source : tie.Need-enum-known-source
+enum-known-source c = search needs
+
+cast-c : tie.Need-cast-c
+cast-c c = search needs
+
+sub-c : tie.Need-sub-c
+sub-c c = there (c .before) .1
+
+mul-c : tie.Need-mul-c
+mul-c c = search needs
+
+element-copy-out-c : tie.Need-element-copy-out-c
+element-copy-out-c c = taken (c .before) .there
+
+transfer-requires : tie.Need-transfer-requires
+transfer-requires c κs =
+    let s = c .before .before .before in
+    (search needs, taken s .ok)
+
+enum-known-source-2 : tie.Need-enum-known-source-2
+enum-known-source-2 c = search needs
+
+acknowledge-requires : tie.Need-acknowledge-requires
+acknowledge-requires c κs =
+    let d = c .before .before in
+    let s = d .before .before .before .before .before .before .before .before .before .before in
+    let w = interrupt-winner _ _ _ _ (sym (d .before .before .winner-of .ensures) ∙ d .source2 .given .1) in
+    (s .pre .0, s .pre .1, w .0, w .1)
+
+same-length-2 : tie.Need-same-length-2
+same-length-2 c = search needs
+
+returns-3 : tie.Need-returns-3
+unfolding granted
+returns-3 c = simp (gets (c .before .before), c .enum-told .given .1)
+
+same-length-3 : tie.Need-same-length-3
+same-length-3 c = search needs
+
+returns-4 : tie.Need-returns-4
+unfolding granted
+returns-4 c =
+    let d = c .before .before .before .before .before .before in
+    simp (gets (d .before .before), d .source .given .1, taken d .same, c .before .before .transfer .ensures)
+
+same-length-4 : tie.Need-same-length-4
+same-length-4 c = search needs
+
+returns-5 : tie.Need-returns-5
+unfolding granted
+returns-5 c =
+    let d = c .before .before .before .before .before in
+    simp (gets (d .before .before), d .source2 .given .1, c .before .before .acknowledge .ensures)
+
+pub arbitrate-spec : {M : Type 1} → statement M
+arbitrate-spec =
+    tie.close
+    (tie.spec
+    slice-read-if1
+    returns
+    top-level-requires
+    enter-top-requires
+    same-length
+    returns-2
+    winner-of-requires
+    enum-told
+    enum-known-source
+    cast-c
+    sub-c
+    mul-c
+    element-copy-out-c
+    transfer-requires
+    enum-known-source-2
+    acknowledge-requires
+    same-length-2
+    returns-3
+    same-length-3
+    returns-4
+    same-length-4
+    returns-5)

@@ -1,0 +1,47 @@
+-- The mark decides as in the definition: it is cleared alone, or `unnest` makes the nested part and IEN is put after it.
+use borrow.Author.Needs.{needs}
+use borrow.Author.Tests.{eq-eqb, ne-eqb}
+use Rattle.rules.specs.Return.{returned, returnOf}
+use Rattle.arbiter.proofs.return_from_interrupt.Statement.{statement}
+use Rattle.arbiter.proofs.return_from_interrupt.Tie as tie
+
+slice-read-if1 : tie.Need-slice-read-if1
+slice-read-if1 c = search needs
+
+slice-write-image : tie.Need-slice-write-image
+slice-write-image c = search needs
+
+same-length : tie.Need-same-length
+same-length c = search needs
+
+returns : tie.Need-returns
+unfolding returnOf returned
+returns c = simp (ne-eqb _ _ (c .if1 .taken))
+
+unnest-requires : tie.Need-unnest-requires
+unnest-requires c κs = search needs
+
+put-at-requires : tie.Need-put-at-requires
+put-at-requires c κs = search needs
+
+same-length-2 : tie.Need-same-length-2
+same-length-2 c = search needs
+
+returns-2 : tie.Need-returns-2
+unfolding returnOf returned
+returns-2 c =
+    let u = c .before .before .before .before .before .before in
+    simp (eq-eqb _ _ (u .before .before .if1 .left), c .before .before .put-at .ensures, u .unnest .ensures)
+
+pub return-from-interrupt-spec : {M : Type 1} → statement M
+return-from-interrupt-spec =
+    tie.close
+    (tie.spec
+    slice-read-if1
+    slice-write-image
+    same-length
+    returns
+    unnest-requires
+    put-at-requires
+    same-length-2
+    returns-2)

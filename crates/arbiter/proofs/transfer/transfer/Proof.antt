@@ -1,0 +1,96 @@
+-- The code makes the definition's tests in its order; DCPR lies in the image, and so does every register that a byte can name.
+use mathlib.Core.Path.{sym}
+use Prim.Native.Nat.{_*_, _/_}
+use native.Mathlib.Omega.{arith}
+use borrow.Author.Needs.{needs}
+use borrow.Author.Tests.{lt-ltb, le-ltb, eq-eqb, ne-eqb}
+use Rattle.rules.specs.Image.{at}
+use Rattle.rules.specs.Channels.{dcprByte}
+use Rattle.rules.specs.Transfer.{pairOf, transferOf}
+use Rattle.rules.proofs.ChannelLaws.{record-in-range}
+use Rattle.channels.proofs.RegisterLaws.{register-place}
+use Rattle.arbiter.proofs.transfer.transfer.Statement.{statement}
+use Rattle.arbiter.proofs.transfer.transfer.Tie as tie
+
+page-byte-requires : tie.Need-page-byte-requires
+page-byte-requires c κs = record-in-range (c .before .args .c) (c .before .pre .1) .register-low 2 (omega arith)
+
+slice-read-dcpr : tie.Need-slice-read-dcpr
+slice-read-dcpr c =
+    let s = c .before .before .before in
+    omega (arith, s .pre .0, register-place (s .args .c) (s .pre .1) 2 (omega arith) _ (c .before .page-byte .ensures) .1)
+
+returns : tie.Need-returns
+unfolding transferOf dcprByte
+returns c = simp (sym (c .before .before .page-byte .ensures), eq-eqb _ _ (c .if1 .taken))
+
+mul-n : tie.Need-mul-n
+mul-n c = omega (arith, c .before .slice-known2 .given (c .before .before .page-byte .result))
+
+cast-n : tie.Need-cast-n
+cast-n c = omega (arith, c .before .slice-known2 .given (c .before .before .page-byte .result))
+
+returns-2 : tie.Need-returns-2
+unfolding transferOf dcprByte pairOf
+returns-2 c =
+    let d = c .before in
+    simp (sym (d .before .before .page-byte .ensures), ne-eqb _ _ (d .if1 .left), lt-ltb _ _ (c .if2 .taken))
+
+slice-read-if3 : tie.Need-slice-read-if3
+slice-read-if3 c = search needs
+
+cast-if3 : tie.Need-cast-if3
+cast-if3 c =
+    let p = c .before .before .before .before in
+    omega (arith, c .slice-known3 .given (at (p .before .before .args .image .now) (p .page-byte .result) / 2 * 2))
+
+returns-3 : tie.Need-returns-3
+unfolding transferOf dcprByte pairOf
+returns-3 c =
+    let d = c .before .before in
+    let e = d .before in
+    simp (sym (e .before .before .page-byte .ensures), ne-eqb _ _ (e .if1 .left), le-ltb _ _ (d .if2 .left), lt-ltb _ _ (c .if3 .taken))
+
+serve-requires : tie.Need-serve-requires
+unfolding dcprByte pairOf
+serve-requires c κs =
+    let d = c .before in
+    let e = d .before .before in
+    let p = e .before .before .before in
+    let s = p .before .before in
+    (s .pre .0, s .pre .1, rw (p .page-byte .ensures), e .if2 .left, d .if3 .left)
+
+same-length : tie.Need-same-length
+same-length c = search needs
+
+returns-4 : tie.Need-returns-4
+unfolding transferOf dcprByte pairOf
+returns-4 c =
+    let d = c .before .before in
+    let e = d .before .before in
+    let g = e .before .before in
+    let h = g .before in
+    simp (
+      sym (h .before .before .page-byte .ensures),
+      ne-eqb _ _ (h .if1 .left),
+      le-ltb _ _ (g .if2 .left),
+      le-ltb _ _ (e .if3 .left),
+      d .serve .ensures,
+    )
+
+pub transfer-spec : {M : Type 1} → statement M
+transfer-spec =
+    tie.close
+    (tie.spec
+    page-byte-requires
+    slice-read-dcpr
+    returns
+    mul-n
+    cast-n
+    returns-2
+    slice-read-if3
+    cast-if3
+    returns-3
+    serve-requires
+    same-length
+    returns-4)

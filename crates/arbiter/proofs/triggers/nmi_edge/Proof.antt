@@ -1,0 +1,56 @@
+-- The two tests on EIVR are the definition's, and `raise` does what they select to TLIP.
+use borrow.Author.Needs.{needs}
+use borrow.Author.Tests.{lt-ltb, le-ltb}
+use Rattle.rules.specs.Triggers.{triggerVerdict, selects, selectsTop, sourceEffect, raiseSource, topEffect, raiseTop, fire, triggerOf}
+use Rattle.arbiter.proofs.triggers.nmi_edge.Statement.{statement}
+use Rattle.arbiter.proofs.triggers.nmi_edge.Tie as tie
+
+returns : tie.Need-returns
+unfolding triggerOf fire triggerVerdict
+returns c cs = simp (lt-ltb _ _ (c .if1 .taken))
+
+slice-read-eivr : tie.Need-slice-read-eivr
+slice-read-eivr c = search needs
+
+has-bit-requires : tie.Need-has-bit-requires
+has-bit-requires c κs = search needs
+
+has-bit-requires-2 : tie.Need-has-bit-requires-2
+has-bit-requires-2 c κs = search needs
+
+edge-matches-requires : tie.Need-edge-matches-requires
+edge-matches-requires c κs = search needs
+
+raise-requires : tie.Need-raise-requires
+raise-requires c κs = search needs
+
+same-length : tie.Need-same-length
+same-length c = search needs
+
+returns-2 : tie.Need-returns-2
+unfolding triggerOf fire triggerVerdict selects selectsTop sourceEffect raiseSource topEffect raiseTop
+returns-2 c cs =
+    let r = c .before .before in
+    let e = r .before .before in
+    let h = e .before .before in
+    simp (
+      le-ltb _ _ (h .before .before .if1 .left),
+      r .raise .ensures .0,
+      r .raise .ensures .1,
+      e .edge-matches .ensures,
+      e .before .has-bit2 .ensures,
+      h .has-bit .ensures,
+    )
+
+pub nmi-edge-spec : {M : Type 1} → statement M
+nmi-edge-spec =
+    tie.close
+    (tie.spec
+    returns
+    slice-read-eivr
+    has-bit-requires
+    has-bit-requires-2
+    edge-matches-requires
+    raise-requires
+    same-length
+    returns-2)

@@ -1,0 +1,55 @@
+-- Not selected, nothing is done; selected, the bit is read before it is set.
+use mathlib.Core.Path.{sym}
+use borrow.Author.Needs.{needs}
+use borrow.Author.Tests.{not-true, not-false}
+use Rattle.arbiter.proofs.triggers.raise.Statement.{statement}
+use Rattle.arbiter.proofs.triggers.raise.Tie as tie
+
+returns : tie.Need-returns
+returns c =
+    let off = not-true (c .before .before .args .selected) (c .if1 .taken) in
+    (rw off, rw off)
+
+slice-read-has-bit : tie.Need-slice-read-has-bit
+slice-read-has-bit c = search needs
+
+has-bit-requires : tie.Need-has-bit-requires
+has-bit-requires c κs = search needs
+
+put-at-requires : tie.Need-put-at-requires
+put-at-requires c κs = search needs
+
+same-length : tie.Need-same-length
+same-length c = search needs
+
+returns-2 : tie.Need-returns-2
+returns-2 c =
+    let p = c .before .before .before in
+    let h = p .before .before in
+    let s = h .before .before in
+    let on = not-false (s .before .before .args .selected) (s .if1 .left) in
+    (simp (on, sym (h .has-bit .ensures), c .if2 .taken), simp (on, p .put-at .ensures))
+
+same-length-2 : tie.Need-same-length-2
+same-length-2 c = search needs
+
+returns-3 : tie.Need-returns-3
+returns-3 c =
+    let p = c .before .before .before in
+    let h = p .before .before in
+    let s = h .before .before in
+    let on = not-false (s .before .before .args .selected) (s .if1 .left) in
+    (simp (on, sym (h .has-bit .ensures), c .if2 .left), simp (on, p .put-at .ensures))
+
+pub raise-spec : {M : Type 1} → statement M
+raise-spec =
+    tie.close
+    (tie.spec
+    returns
+    slice-read-has-bit
+    has-bit-requires
+    put-at-requires
+    same-length
+    returns-2
+    same-length-2
+    returns-3)
