@@ -21,6 +21,12 @@ module _ (f : ℕ → Winner) where
   unfolding first
   first-more n p q = rw (add-one, p, q)
 
+  -- nobody at any place
+  pub first-none : (n : ℕ) → ((i : ℕ) → i < n → f i ≡ winner.Nobody) → first n f ≡ winner.Nobody
+  unfolding first
+  first-none zero h = refl
+  first-none (suc n) h = rw (first-none n (λ i l. h i (omega arith)), h n (omega arith))
+
   -- a hit at i, with nobody before it
   pub first-hit : (n i : ℕ) (w : Winner) → i < n → first i f ≡ winner.Nobody → f i ≡ w → Somebody w → first n f ≡ w
   unfolding first

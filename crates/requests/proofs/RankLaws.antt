@@ -1,11 +1,14 @@
 -- What a rank says of a request, the ranks gathered one position further, and that their scan finds the winner. Assumes nothing.
 use mathlib.Core.Path.{_≡_, refl, sym, _∙_}
+use mathlib.Core.Logic.{_≢_}
 use mathlib.Core.Bool.{Bool, true, false, cond, _&&_}
 use mathlib.Core.List.{List}
-use Prim.Native.Nat.{ℕ, _+_, _-_, _*_, _<_}
+use Prim.Native.Nat.{ℕ, _+_, _-_, _*_, _≤_, _<_}
 use native.Mathlib.Omega.{arith}
+use native.Mathlib.Nat.{not-suc-le-zero}
+use native.Mathlib.Decide.{ℕ-discrete}
 use lib.Dec.{eqb, ltb}
-use lib.ListN.{length, getD, set}
+use lib.ListN.{length, getD, set, replicate, getD-replicate}
 use lib.Seq.{getD-set-same, getD-set-other}
 use borrow.Author.Count.{below-more}
 use borrow.Author.Tests.{eq-eqb, ne-eqb, eqb-true, eqb-false, lt-ltb, le-ltb}
@@ -18,8 +21,8 @@ use Rattle.rules.specs.Image.{Image, at, has, IEN, CPL, EIPR, EIMR, EIPLR}
 use Rattle.rules.specs.Channels.{recordAt, idcrByte}
 use Rattle.rules.specs.Sources.{sources, pendingBit, pending, unmasked, dmaEnabled, externalLevel, level}
 use Rattle.rules.specs.Requests.{requestOf, eligible, isAt, wonBy, candidate, winnerOfKind, winnerAtLevel, winnerOf}
-use Rattle.requests.specs.Ranks.{recordRequest, noRank, rankOf, Gathered, found, foundOfKind, foundAtLevel, scanned}
-use Rattle.requests.proofs.FirstLaws.{first-same}
+use Rattle.requests.specs.Ranks.{recordRequest, noRank, rankOf, positionLimit, NoneBelow, RanksBelow, found, foundOfKind, foundAtLevel, scanned}
+use Rattle.requests.proofs.FirstLaws.{first-none, first-same}
 
 -- ---- requests, by the bytes that the code reads
 
@@ -53,18 +56,50 @@ rank-eligible m (request.Interrupt x) l kind hl hk = tested 1 x (2 * x + 1) l ki
 
 -- ---- the ranks gathered
 
--- one position further
-pub gathered-more : (m : Image) (cs : List Channel) (ranks : List ℕ) (n rank : ℕ) → n < length ranks → rank ≡ rankOf m (requestOf m cs n)
-    → Gathered m cs n ranks → Gathered m cs (n + 1) (set ranks n rank)
-gathered-more m cs ranks n rank h e k =
-    below-more _ n (λ p l. getD-set-other ranks n p rank 0 (λ q. omega arith) ∙ k p l) (getD-set-same ranks n rank 0 h ∙ e)
+-- none yet
+pub ranks-none : (m : Image) (cs : List Channel) → RanksBelow m cs 0 (replicate positionLimit noRank) noRank
+ranks-none m cs =
+    record {
+      held = λ p h. absurd (not-suc-le-zero h);
+      rest = λ p h l. getD-replicate positionLimit p noRank 0 l;
+      under = λ p l. omega (arith, getD-replicate positionLimit p noRank 0 l);
+    }
+
+module _ (m : Image) (cs : List Channel) (ranks : List ℕ) (n rank least : ℕ) (is : rank ≡ rankOf m (requestOf m cs n)) (k : RanksBelow m cs n ranks least) where
+  -- one position further
+  pub ranks-more : (low : ℕ) → n < length ranks → low ≤ least → low ≤ rank → RanksBelow m cs (n + 1) (set ranks n rank) low
+  ranks-more low h a b =
+      record {
+        held = below-more _ n (λ p l. other p (λ q. omega arith) ∙ k .held p l) (here ∙ is);
+        rest = λ p l g. other p (λ q. omega arith) ∙ k .rest p (omega arith) g;
+        under = λ p l. go p l (ℕ-discrete p n);
+      }
+    where
+      here : getD (set ranks n rank) n 0 ≡ rank
+      here = getD-set-same ranks n rank 0 h
+
+      other : (p : ℕ) → p ≢ n → getD (set ranks n rank) p 0 ≡ getD ranks p 0
+      other p d = getD-set-other ranks n p rank 0 d
+
+      go : (p : ℕ) → p < positionLimit → Dec (p ≡ n) → low ≤ getD (set ranks n rank) p 0
+      go p l (yes e) = rw e (omega (arith, here))
+      go p l (no d) = omega (arith, other p d, k .under p l)
+
+  -- a position without a rank: nothing is stored
+  pub ranks-skip : n < positionLimit → rank ≡ noRank → RanksBelow m cs (n + 1) ranks least
+  ranks-skip h z =
+      record {
+        held = below-more _ n (k .held) (k .rest n (omega arith) h ∙ sym z ∙ is);
+        rest = λ p l g. k .rest p (omega arith) g;
+        under = k .under;
+      }
 
 -- the scan of all ranks finds the winner
-pub scanned-winner : (m : Image) (cs : List Channel) (ranks : List ℕ) → Gathered m cs (sources cs) ranks → scanned ranks (sources cs) ≡ winnerOf m cs
+pub scanned-winner : (m : Image) (cs : List Channel) (ranks : List ℕ) (least : ℕ) → RanksBelow m cs (sources cs) ranks least → scanned ranks (sources cs) ≡ winnerOf m cs
 unfolding scanned foundAtLevel foundOfKind found winnerOf winnerAtLevel winnerOfKind candidate
-scanned-winner m cs ranks k =
+scanned-winner m cs ranks least k =
     first-same _ _ 8
-    (λ l hl. first-same _ _ 2 (λ d hd. first-same _ _ (sources cs) (λ p h. rw (k p h, rank-eligible m (requestOf m cs p) l d hl hd))))
+    (λ l hl. first-same _ _ 2 (λ d hd. first-same _ _ (sources cs) (λ p h. rw (k .held p h, rank-eligible m (requestOf m cs p) l d hl hd))))
 
 -- ---- one turn of the scan
 
@@ -78,3 +113,9 @@ module _ (ranks : List ℕ) (l kind p : ℕ) where
   pub found-here : getD ranks p 0 ≡ 2 * l + kind → found ranks l kind p ≡ wonBy l kind p
   unfolding found
   found-here e = rw (eq-eqb (getD ranks p 0) (2 * l + kind) e)
+
+-- nobody of a rank below the least
+pub found-below : (ranks : List ℕ) (least n l kind : ℕ) → n ≤ positionLimit → NoneBelow ranks least → 2 * l + kind < least → foundOfKind ranks n l kind ≡ winner.Nobody
+unfolding foundOfKind
+found-below ranks least n l kind h k b =
+    first-none (found ranks l kind) n (λ p g. found-none ranks l kind p (λ e. omega (arith, k p (omega arith))))

@@ -2,7 +2,7 @@
 use mathlib.Core.Path.{_≡_}
 use mathlib.Core.Bool.{cond}
 use mathlib.Core.List.{List}
-use Prim.Native.Nat.{ℕ, _+_, _*_, _%_, _<_}
+use Prim.Native.Nat.{ℕ, _+_, _*_, _%_, _≤_, _<_}
 use lib.Dec.{eqb}
 use lib.ListN.{getD}
 use Rattle.bits.specs.Bits.{bit}
@@ -37,9 +37,15 @@ rankOf m r = cond (eligible m r) (order r) noRank
 abbrev pub positionLimit : ℕ
 positionLimit = 20
 
--- the list has the rank of each position below n
-abbrev pub Gathered : Image → List Channel → ℕ → List ℕ → Type 0
-Gathered m cs n ranks = (p : ℕ) → p < n → getD ranks p 0 ≡ rankOf m (requestOf m cs p)
+-- no rank of the list is below this one
+abbrev pub NoneBelow : List ℕ → ℕ → Type 0
+NoneBelow ranks least = (p : ℕ) → p < positionLimit → least ≤ getD ranks p 0
+
+-- the list has the rank of each position below n, none at the others, and none below the least
+pub record RanksBelow (m : Image) (cs : List Channel) (n : ℕ) (ranks : List ℕ) (least : ℕ) : Type 0 where
+  pub held : (p : ℕ) → p < n → getD ranks p 0 ≡ rankOf m (requestOf m cs p)
+  pub rest : (p : ℕ) → n ≤ p → p < positionLimit → getD ranks p 0 ≡ noRank
+  pub under : NoneBelow ranks least
 
 -- who is found at a level, a kind and a position
 unfoldable pub found : List ℕ → ℕ → ℕ → ℕ → Winner

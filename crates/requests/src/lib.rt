@@ -24,7 +24,7 @@ ghost use Rattle.rules.specs.Image.{imageLength};
 ghost use Rattle.rules.specs.Channels.{listOk, listOf};
 ghost use Rattle.rules.specs.Sources.{externalLevel};
 ghost use Rattle.rules.specs.Requests.{requestOf, wonBy, winnerOf};
-ghost use Rattle.requests.specs.Ranks.{recordRequest, rankOf, Gathered, positionLimit, scanned};
+ghost use Rattle.requests.specs.Ranks.{recordRequest, rankOf, positionLimit, NoneBelow, RanksBelow, scanned};
 
 // The most positions there can be.
 const POSITIONS: usize = EXTERNALS + MOST_RECORDS;
@@ -91,32 +91,56 @@ fn rank_of(image: &[u8], request: Request) -> u8
     }
 }
 
-// The ranks at the positions of the external channels.
-fn external_ranks(image: &[u8]) -> [u8; POSITIONS]
-    requires { ⌜ length (now image) ≡ imageLength ⌝ }
-    ensures { λ ranks. ⌜ ((cs : List Channel) → Gathered (now (image .entry)) cs 8 ranks) ⌝ }
+// The smaller of two ranks.
+fn lower(a: u8, b: u8) -> u8
+    ensures { λ r. ⌜ (r ≤ a) × (r ≤ b) ⌝ }
 {
-    let mut ranks = [NO_RANK; POSITIONS];
-    for k in 0..EXTERNALS {
-        ranks[k] = rank_of(image, external_request(image, k as u8));
+    if a < b {
+        return a;
     }
-    ranks
+    b
 }
 
-// The rank at every position: one pass over the external channels and the records.
-fn ranks_of(image: &[u8], all: Channels) -> [u8; POSITIONS]
-    requires { ⌜ (length (now image) ≡ imageLength) × (listOk (listOf all) ≡ true) ⌝ }
-    ensures { λ ranks. ⌜ Gathered (now (image .entry)) (listOf all) (8 + all .count) ranks ⌝ }
+// The rank at each position, and a rank that none of them is below.
+struct Gathered {
+    ranks: [u8; POSITIONS],
+    least: u8,
+}
+
+// The ranks of the external channels.
+fn gather_externals(image: &[u8]) -> Gathered
+    requires { ⌜ length (now image) ≡ imageLength ⌝ }
+    ensures { λ g. ⌜ ((cs : List Channel) → RanksBelow (now (image .entry)) cs 8 (g .ranks) (g .least)) ⌝ }
 {
-    let mut ranks = external_ranks(image);
-    let mut k: usize = 0;
-    while k < all.count {
+    let mut ranks = [NO_RANK; POSITIONS];
+    let mut least = NO_RANK;
+    for k in 0..EXTERNALS {
+        let rank = rank_of(image, external_request(image, k as u8));
+        ranks[k] = rank;
+        least = lower(least, rank);
+    }
+    Gathered { ranks, least }
+}
+
+// The ranks of every position: one pass over the external channels and the records.
+fn gather(image: &[u8], all: Channels) -> Gathered
+    requires { ⌜ (length (now image) ≡ imageLength) × (listOk (listOf all) ≡ true) ⌝ }
+    ensures { λ g. ⌜ RanksBelow (now (image .entry)) (listOf all) (8 + all .count) (g .ranks) (g .least) ⌝ }
+{
+    let externals = gather_externals(image);
+    let mut ranks = externals.ranks;
+    let mut least = externals.least;
+    for k in 0..all.count {
         let c = all.items[k];
         let idcr = image[page_byte(c.page, c.idcr)];
-        ranks[EXTERNALS + k] = rank_of(image, record_request(idcr));
-        k += 1;
+        let rank = rank_of(image, record_request(idcr));
+        if rank == NO_RANK {
+            continue;
+        }
+        ranks[EXTERNALS + k] = rank;
+        least = lower(least, rank);
     }
-    ranks
+    Gathered { ranks, least }
 }
 
 // The winner of a level, a kind and a position.
@@ -132,16 +156,20 @@ fn won(level: u8, kind: u8, position: u8) -> Winner
     }
 }
 
-// The first position of the first level and kind that some rank has.
-fn scan(ranks: [u8; POSITIONS], positions: usize) -> Winner
-    requires { ⌜ positions ≤ positionLimit ⌝ }
+// The first position of the first level and kind that some rank has. Ranks below the least are passed over.
+fn scan(ranks: [u8; POSITIONS], least: u8, positions: usize) -> Winner
+    requires { ⌜ (positions ≤ positionLimit) × NoneBelow ranks least ⌝ }
     ensures { λ w. ⌜ w ≡ scanned ranks positions ⌝ }
 {
     let mut winner = Winner::Nobody;
     'scan: for level in 0..8 {
         for kind in 0..2 {
+            let rank = 2 * level + kind;
+            if rank < least {
+                continue;
+            }
             for position in 0..positions {
-                if ranks[position] == 2 * level + kind {
+                if ranks[position] == rank {
                     winner = won(level, kind, position as u8);
                     break 'scan;
                 }
@@ -156,6 +184,7 @@ pub fn winner_of(image: &[u8], all: Channels) -> Winner
     requires { ⌜ (length (now image) ≡ imageLength) × (listOk (listOf all) ≡ true) ⌝ }
     ensures { λ w. ⌜ w ≡ winnerOf (now (image .entry)) (listOf all) ⌝ }
 {
-    let ranks = ranks_of(image, all);
-    scan(ranks, EXTERNALS + all.count)
+    let gathered = gather(image, all);
+    let ranks = gathered.ranks;
+    scan(ranks, gathered.least, EXTERNALS + all.count)
 }

@@ -9,7 +9,7 @@ use Rattle.rules.specs.Requests.{first}
 use Rattle.rules.proofs.WinnerLaws.{won-somebody}
 use Rattle.requests.specs.Ranks.{found, foundOfKind, foundAtLevel, scanned}
 use Rattle.requests.proofs.FirstLaws.{first-more, first-hit, first-end}
-use Rattle.requests.proofs.RankLaws.{found-none, found-here}
+use Rattle.requests.proofs.RankLaws.{found-none, found-here, found-below}
 use Rattle.requests.proofs.scan.Statement.{statement}
 use Rattle.requests.proofs.scan.Tie as tie
 
@@ -17,25 +17,25 @@ abbrev nobody : Winner
 nobody = winner.Nobody
 
 abbrev Inv-loop2 : tie.InvT-loop2
-Inv-loop2 positions ranks winner₀ level kind position₀ winner position =
+Inv-loop2 least positions ranks winner₀ level kind rank position₀ winner position =
     (winner ≡ nobody) × (position ≤ positions) × (first position (found ranks level kind) ≡ nobody)
 
 abbrev μ-loop2 : tie.MeasureT-loop2
-μ-loop2 positions ranks winner₀ level kind position₀ winner position = positions - position
+μ-loop2 least positions ranks winner₀ level kind rank position₀ winner position = positions - position
 
 abbrev Inv-loop : tie.InvT-loop
-Inv-loop positions ranks winner₀ level kind₀ winner kind =
+Inv-loop least positions ranks winner₀ level kind₀ winner kind =
     (winner ≡ nobody) × (kind ≤ 2) × (first kind (foundOfKind ranks positions level) ≡ nobody)
 
 abbrev μ-loop : tie.MeasureT-loop
-μ-loop positions ranks winner₀ level kind₀ winner kind = 2 - kind
+μ-loop least positions ranks winner₀ level kind₀ winner kind = 2 - kind
 
 abbrev Inv-scan : tie.InvT-scan
-Inv-scan positions ranks winner₀ level₀ winner level =
+Inv-scan least positions ranks winner₀ level₀ winner level =
     (winner ≡ nobody) × (level ≤ 8) × (first level (foundAtLevel ranks positions) ≡ nobody)
 
 abbrev μ-scan : tie.MeasureT-scan
-μ-scan positions ranks winner₀ level₀ winner level = 8 - level
+μ-scan least positions ranks winner₀ level₀ winner level = 8 - level
 
 scan-holds : tie.Need-scan-holds Inv-loop2 μ-loop2 Inv-loop μ-loop Inv-scan μ-scan
 unfolding first
@@ -45,18 +45,32 @@ loop-holds : tie.Need-loop-holds Inv-loop2 μ-loop2 Inv-loop μ-loop Inv-scan μ
 unfolding first
 loop-holds c = (c .before .scan .inv .0, omega arith, refl)
 
+mul-rank : tie.Need-mul-rank Inv-loop2 μ-loop2 Inv-loop μ-loop Inv-scan μ-scan
+mul-rank c = search needs
+
+add-rank : tie.Need-add-rank Inv-loop2 μ-loop2 Inv-loop μ-loop Inv-scan μ-scan
+add-rank c = search needs
+
+add-kind : tie.Need-add-kind Inv-loop2 μ-loop2 Inv-loop μ-loop Inv-scan μ-scan
+add-kind c = search needs
+
+loop-less : tie.Need-loop-less Inv-loop2 μ-loop2 Inv-loop μ-loop Inv-scan μ-scan
+loop-less c = search needs
+
+loop-again : tie.Need-loop-again Inv-loop2 μ-loop2 Inv-loop μ-loop Inv-scan μ-scan
+loop-again c =
+    let d = c .before .before in (
+      d .loop .inv .0,
+      omega arith,
+      first-more _ _ (d .loop .inv .2) (found-below _ _ _ _ _ (d .before .before .before .pre .0) (d .before .before .before .pre .1) (c .if1 .taken)),
+    )
+
 loop2-holds : tie.Need-loop2-holds Inv-loop2 μ-loop2 Inv-loop μ-loop Inv-scan μ-scan
 unfolding first
-loop2-holds c = (c .before .loop .inv .0, omega arith, refl)
+loop2-holds c = (c .before .before .loop .inv .0, omega arith, refl)
 
-array-read-if1 : tie.Need-array-read-if1 Inv-loop2 μ-loop2 Inv-loop μ-loop Inv-scan μ-scan
-array-read-if1 c = search needs
-
-mul-if1 : tie.Need-mul-if1 Inv-loop2 μ-loop2 Inv-loop μ-loop Inv-scan μ-scan
-mul-if1 c = search needs
-
-add-if1 : tie.Need-add-if1 Inv-loop2 μ-loop2 Inv-loop μ-loop Inv-scan μ-scan
-add-if1 c = search needs
+array-read-if2 : tie.Need-array-read-if2 Inv-loop2 μ-loop2 Inv-loop μ-loop Inv-scan μ-scan
+array-read-if2 c = search needs
 
 cast-won : tie.Need-cast-won Inv-loop2 μ-loop2 Inv-loop μ-loop Inv-scan μ-scan
 cast-won c = search needs
@@ -74,21 +88,21 @@ loop2-again : tie.Need-loop2-again Inv-loop2 μ-loop2 Inv-loop μ-loop Inv-scan 
 loop2-again c = (
   c .before .before .loop2 .inv .0,
   omega arith,
-  first-more _ _ (c .before .before .loop2 .inv .2) (found-none _ _ _ _ (c .if1 .left)),
+  first-more _ _ (c .before .before .loop2 .inv .2) (found-none _ _ _ _ (c .if2 .left)),
 )
 
-add-kind : tie.Need-add-kind Inv-loop2 μ-loop2 Inv-loop μ-loop Inv-scan μ-scan
-add-kind c = search needs
+add-kind-2 : tie.Need-add-kind-2 Inv-loop2 μ-loop2 Inv-loop μ-loop Inv-scan μ-scan
+add-kind-2 c = search needs
 
-loop-less : tie.Need-loop-less Inv-loop2 μ-loop2 Inv-loop μ-loop Inv-scan μ-scan
-loop-less c = search needs
+loop-less-2 : tie.Need-loop-less-2 Inv-loop2 μ-loop2 Inv-loop μ-loop Inv-scan μ-scan
+loop-less-2 c = search needs
 
-loop-again : tie.Need-loop-again Inv-loop2 μ-loop2 Inv-loop μ-loop Inv-scan μ-scan
+loop-again-2 : tie.Need-loop-again-2 Inv-loop2 μ-loop2 Inv-loop μ-loop Inv-scan μ-scan
 unfolding foundOfKind
-loop-again c = (
+loop-again-2 c = (
   c .before .loop2 .inv .0,
   omega arith,
-  first-more _ _ (c .before .before .before .loop .inv .2) (first-end _ _ _ (c .before .loop2 .inv .1) (c .loop2-test .left) (c .before .loop2 .inv .2)),
+  first-more _ _ (c .before .before .before .before .loop .inv .2) (first-end _ _ _ (c .before .loop2 .inv .1) (c .loop2-test .left) (c .before .loop2 .inv .2)),
 )
 
 add-level : tie.Need-add-level Inv-loop2 μ-loop2 Inv-loop μ-loop Inv-scan μ-scan
@@ -113,14 +127,14 @@ returns-2 : tie.Need-returns-2 Inv-loop2 μ-loop2 Inv-loop μ-loop Inv-scan μ-s
 unfolding scanned foundAtLevel foundOfKind
 returns-2 c =
     let p = c .before .before .before in
-    let k = p .before .before in
+    let k = p .before .before .before in
     let l = k .before .before in
     let s = won-somebody (l .scan .level) (k .loop .kind) (p .loop2 .position) in
     c .won .ensures
     ∙ sym
     (first-hit _ 8 _ _ (k .before .scan-test .taken) (l .scan .inv .2)
-    (first-hit _ 2 _ _ (p .before .loop-test .taken) (k .loop .inv .2)
-    (first-hit _ _ _ _ (c .before .before .loop2-test .taken) (p .loop2 .inv .2) (found-here _ _ _ _ (c .before .if1 .taken)) s) s) s)
+    (first-hit _ 2 _ _ (p .before .before .loop-test .taken) (k .loop .inv .2)
+    (first-hit _ _ _ _ (c .before .before .loop2-test .taken) (p .loop2 .inv .2) (found-here _ _ _ _ (c .before .if2 .taken)) s) s) s)
 
 pub scan-spec : {M : Type 1} → statement M
 scan-spec =
@@ -134,18 +148,21 @@ scan-spec =
     μ-scan
     scan-holds
     loop-holds
+    mul-rank
+    add-rank
+    add-kind
+    loop-less
+    loop-again
     loop2-holds
-    array-read-if1
-    mul-if1
-    add-if1
+    array-read-if2
     cast-won
     won-requires
     add-position
     loop2-less
     loop2-again
-    add-kind
-    loop-less
-    loop-again
+    add-kind-2
+    loop-less-2
+    loop-again-2
     add-level
     scan-less
     scan-again

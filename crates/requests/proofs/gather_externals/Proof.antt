@@ -1,25 +1,24 @@
 -- The invariant: the ranks of the channels below k are gathered, whatever the list is.
 use mathlib.Core.Path.{_≡_, refl, ap, _∙_}
-use Prim.Native.Nat.{_-_, _≤_}
 use mathlib.Core.List.{List}
-use native.Mathlib.Nat.{not-suc-le-zero}
+use Prim.Native.Nat.{_-_, _≤_}
 use native.Mathlib.Omega.{arith}
 use borrow.Author.Needs.{needs}
 use lib.ListN.{length, length-set}
 use Rattle.rules.specs.declared.Channel.{Channel}
-use Rattle.requests.specs.Ranks.{rankOf, Gathered, positionLimit}
-use Rattle.requests.proofs.RankLaws.{gathered-more}
-use Rattle.requests.proofs.external_ranks.Statement.{statement}
-use Rattle.requests.proofs.external_ranks.Tie as tie
+use Rattle.requests.specs.Ranks.{rankOf, positionLimit, RanksBelow}
+use Rattle.requests.proofs.RankLaws.{ranks-none, ranks-more}
+use Rattle.requests.proofs.gather_externals.Statement.{statement}
+use Rattle.requests.proofs.gather_externals.Tie as tie
 
 abbrev Inv-loop : tie.InvT-loop
-Inv-loop image ranks₀ k₀ ranks k = (k ≤ 8) × (length ranks ≡ positionLimit) × ((cs : List Channel) → Gathered image cs k ranks)
+Inv-loop image ranks₀ least₀ k₀ ranks least k = (k ≤ 8) × (length ranks ≡ positionLimit) × ((cs : List Channel) → RanksBelow image cs k ranks least)
 
 abbrev μ-loop : tie.MeasureT-loop
-μ-loop image ranks₀ k₀ ranks k = 8 - k
+μ-loop image ranks₀ least₀ k₀ ranks least k = 8 - k
 
 loop-holds : tie.Need-loop-holds Inv-loop μ-loop
-loop-holds c = (omega arith, refl, λ cs p h. absurd (not-suc-le-zero h))
+loop-holds c = (omega arith, refl, λ cs. ranks-none _ cs)
 
 cast-external-request : tie.Need-cast-external-request Inv-loop μ-loop
 cast-external-request c = search needs
@@ -33,6 +32,9 @@ rank-of-requires c κs = search needs
 array-write-ranks : tie.Need-array-write-ranks Inv-loop μ-loop
 array-write-ranks c = search needs
 
+lower-requires : tie.Need-lower-requires Inv-loop μ-loop
+lower-requires c κs = search needs
+
 add-k : tie.Need-add-k Inv-loop μ-loop
 add-k c = search needs
 
@@ -41,18 +43,21 @@ loop-less c = search needs
 
 loop-again : tie.Need-loop-again Inv-loop μ-loop
 loop-again c =
-    let d = c .before .before .before in
-    let k = d .loop .inv in (
+    let d = c .before .before .before .before in
+    let i = d .loop .inv in (
       omega arith,
-      simp length-set (k .1),
-      λ cs. gathered-more _ cs (d .loop .ranks) (d .loop .k) (c .rank-of .result) (omega (arith, k .1)) (c .rank-of .ensures ∙ ap (rankOf _) (c .before .external-request .ensures cs)) (k .2 cs),
+      simp length-set (i .1),
+      λ cs.
+          ranks-more _ cs (d .loop .ranks) (d .loop .k) (c .before .rank-of .result) (d .loop .least)
+          (c .before .rank-of .ensures ∙ ap (rankOf _) (c .before .before .external-request .ensures cs)) (i .2 cs) (c .lower .result)
+          (omega (arith, i .1)) (c .lower .ensures .0) (c .lower .ensures .1),
     )
 
 returns : tie.Need-returns Inv-loop μ-loop
 returns c = let e : c .before .loop .k ≡ 8 = omega arith in rw e at (c .before .loop .inv .2)
 
-pub external-ranks-spec : {M : Type 1} → statement M
-external-ranks-spec =
+pub gather-externals-spec : {M : Type 1} → statement M
+gather-externals-spec =
     tie.close
     (tie.spec
     Inv-loop
@@ -62,6 +67,7 @@ external-ranks-spec =
     external-request-requires
     rank-of-requires
     array-write-ranks
+    lower-requires
     add-k
     loop-less
     loop-again
