@@ -113,29 +113,13 @@ fn read_other_records() {
 // ---- write: the image at the start, the step, the answer and every byte that it changed. Page 1 stands at bytes 256 to 271, page 9 at 384 to 399,
 // page 63 at 1248 to 1263.
 
-// With refusal 2 for a list outside the rules: no case here has one.
-fn answer_of_write(
-    image: &mut [u8; IMAGE_LENGTH],
-    all: Channels,
-    register: u32,
-    value: u8,
-) -> Answer {
-    if channels::list_ok(all) {
-        return registers::write(image, all, register, value);
-    }
-    Answer::Refused(Refusal::List)
-}
-
 fn show_write(image: [u8; IMAGE_LENGTH], register: u32, value: u8) {
     text(b", write ");
     report::byte(value);
     text(b" to R");
     report::number(register as u64);
     text(b": ");
-    let mut after = image;
-    report::answer(answer_of_write(&mut after, records(), register, value));
-    report::changes(image, after);
-    text(b"\n");
+    steps::write(image, records(), register, value);
 }
 
 // From an image of `fill` throughout, but `b` at one byte.
@@ -248,10 +232,7 @@ fn write_unmodelled() {
 fn show_reset(start: &[u8], image: [u8; IMAGE_LENGTH]) {
     text(start);
     text(b", reset: ");
-    let mut after = image;
-    report::answer(registers::reset(&mut after));
-    report::changes(image, after);
-    text(b"\n");
+    steps::reset(image);
 }
 
 fn reset_once() -> [u8; IMAGE_LENGTH] {

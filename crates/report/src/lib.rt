@@ -150,3 +150,29 @@ pub fn changes(before: [u8; IMAGE_LENGTH], after: [u8; IMAGE_LENGTH]) -> usize
     }
     n
 }
+
+// An answer and every byte that changed, to the end of the line.
+pub fn outcome(a: Answer, before: [u8; IMAGE_LENGTH], after: [u8; IMAGE_LENGTH]) {
+    answer(a);
+    changes(before, after);
+    text(b"\n");
+}
+
+// One byte, if it is not 0.
+fn stored_byte(i: usize, b: u8) {
+    if b != 0 {
+        text(b"; byte ");
+        number(i as u64);
+        text(b" ");
+        byte(b);
+    }
+}
+
+// A label, and every byte of an image that is not 0, to the end of the line.
+pub fn start(label: &[u8], image: [u8; IMAGE_LENGTH]) {
+    text(label);
+    for i in 0..IMAGE_LENGTH {
+        stored_byte(i, image[i]);
+    }
+    text(b"\n");
+}

@@ -1,13 +1,19 @@
 // Images and channel lists for the programs that run cases to start from.
+use rules::CICR;
 use rules::Channel;
 use rules::Channels;
+use rules::EIMR;
+use rules::EIPLR;
+use rules::EIPR;
+use rules::EIVR;
 use rules::IMAGE_LENGTH;
 use rules::MOST_RECORDS;
+use rules::NICR;
 ghost use mathlib.Core.Path.{_≡_};
-ghost use Prim.Native.Nat.{_<_};
+ghost use Prim.Native.Nat.{_+_, _*_, _<_};
 ghost use lib.ListN.{set, replicate};
 ghost use Rattle.rules.specs.Image.{imageLength};
-ghost use Rattle.samples.specs.Samples.{Counted, channelOf, usualOf, listBy, sameItems, elevenAnd};
+ghost use Rattle.samples.specs.Samples.{Counted, interruptsOf, withRecord, channelOf, usualOf, reversedOf, listBy, sameItems, elevenAnd};
 
 // An image of one byte throughout.
 pub fn filled(b: u8) -> [u8; IMAGE_LENGTH]
@@ -23,6 +29,49 @@ pub fn with(image: [u8; IMAGE_LENGTH], at: usize, b: u8) -> [u8; IMAGE_LENGTH]
 {
     let mut m = image;
     m[at] = b;
+    m
+}
+
+// The image of zeros but for EIVR, which is 46h, and CICR, NICR, EIPR, EIMR and EIPLR.
+pub fn interrupts(cicr: u8, nicr: u8, eipr: u8, eimr: u8, eiplr: u8) -> [u8; IMAGE_LENGTH]
+    ensures { λ m. ⌜ m ≡ interruptsOf cicr nicr eipr eimr eiplr ⌝ }
+{
+    let mut m = filled(0);
+    m[CICR] = cicr;
+    m[NICR] = nicr;
+    m[EIPR] = eipr;
+    m[EIMR] = eimr;
+    m[EIPLR] = eiplr;
+    m[EIVR] = 0x46;
+    m
+}
+
+// The image with two bytes in a row replaced: a pair of registers.
+pub fn with_pair(image: [u8; IMAGE_LENGTH], n: usize, a: u8, b: u8) -> [u8; IMAGE_LENGTH]
+    requires { ⌜ n + 1 < imageLength ⌝ }
+    ensures { λ m. ⌜ m ≡ set (set image n a) (n + 1) b ⌝ }
+{
+    with(with(image, n, a), n + 1, b)
+}
+
+// The image with the IDCR, the IVR, the DCPR and the data register of a page's `usual` record replaced.
+pub fn with_record(
+    image: [u8; IMAGE_LENGTH],
+    page: usize,
+    idcr: u8,
+    ivr: u8,
+    dcpr: u8,
+    io: u8,
+) -> [u8; IMAGE_LENGTH]
+    requires { ⌜ page < 64 ⌝ }
+    ensures { λ m. ⌜ m ≡ withRecord image (240 + 16 * page) idcr ivr dcpr io ⌝ }
+{
+    let at = 240 + 16 * page;
+    let mut m = image;
+    m[at] = idcr;
+    m[at + 1] = ivr;
+    m[at + 2] = dcpr;
+    m[at + 4] = io;
     m
 }
 
@@ -57,6 +106,21 @@ pub fn usual(page: u8) -> Channel
     ensures { λ c. ⌜ c ≡ usualOf page ⌝ }
 {
     channel(page, 240, 241, 242, 243, 244)
+}
+
+// The record with its transfers from the register file to the peripheral.
+pub fn reversed(c: Channel) -> Channel
+    ensures { λ d. ⌜ d ≡ reversedOf c ⌝ }
+{
+    Channel {
+        page: c.page,
+        idcr: c.idcr,
+        ivr: c.ivr,
+        dcpr: c.dcpr,
+        dapr: c.dapr,
+        io: c.io,
+        direction: 1,
+    }
 }
 
 // A list by value with this count, whose twelve items are all the same record.

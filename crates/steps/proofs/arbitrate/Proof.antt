@@ -1,0 +1,31 @@
+-- The image after it is the step's.
+use mathlib.Core.Path.{ap}
+use borrow.Author.Needs.{needs}
+use Rattle.rules.specs.Outcomes.{Change}
+use Rattle.steps.proofs.arbitrate.Statement.{statement}
+use Rattle.steps.proofs.arbitrate.Tie as tie
+
+slice-aggregate-text : tie.Need-slice-aggregate-text
+slice-aggregate-text c = search needs
+
+text-requires : tie.Need-text-requires
+text-requires c κs = search needs
+
+answer-of-arbitration-requires : tie.Need-answer-of-arbitration-requires
+answer-of-arbitration-requires c κs = search needs
+
+outcome-requires : tie.Need-outcome-requires
+outcome-requires c κs = search needs
+
+returns : tie.Need-returns
+returns c = ap (λ (x : Change). x .image) (c .before .answer-of-arbitration .ensures)
+
+pub arbitrate-spec : {M : Type 1} → statement M
+arbitrate-spec =
+    tie.close
+    (tie.spec
+    slice-aggregate-text
+    text-requires
+    answer-of-arbitration-requires
+    outcome-requires
+    returns)
