@@ -31,7 +31,7 @@ use triggers::watchdog;
 ghost use mathlib.Core.Path.{_≡_};
 ghost use mathlib.Core.Bool.{true};
 ghost use lib.ListN.{length};
-ghost use Rattle.rules.specs.Image.{imageLength};
+ghost use Rattle.rules.specs.Image.{imageLength, inService};
 ghost use Rattle.rules.specs.Channels.{listOk, listOf};
 ghost use Rattle.rules.specs.Outcomes.{change};
 ghost use Rattle.rules.specs.Triggers.{triggerOf};
@@ -50,6 +50,14 @@ pub fn trigger(image: &mut [u8], all: Channels, event: Trigger) -> Answer
         Trigger::Request { record } => channel_request(image, all, record),
         Trigger::Unknown => Answer::Refused(Refusal::Kind),
     }
+}
+
+// Whether the top level is in service: any mark but 0.
+fn in_service(image: &[u8]) -> bool
+    requires { ⌜ length (now image) ≡ imageLength ⌝ }
+    ensures { λ s. ⌜ s ≡ inService (now (image .entry)) ⌝ }
+{
+    image[MARK] != 0
 }
 
 // Whether the top level is served: TLIP set and (TLNM, or TLI and IEN).
@@ -75,7 +83,7 @@ pub fn arbitrate(image: &mut [u8], all: Channels) -> Answer
     requires { ⌜ (length (now image) ≡ imageLength) × (listOk (listOf all) ≡ true) ⌝ }
     ensures { λ a. ⌜ change a (now (image .exit)) ≡ arbitration (now (image .entry)) (listOf all) ⌝ }
 {
-    if image[MARK] != 0 {
+    if in_service(image) {
         return Answer::Nothing;
     }
     if top_level(image) {
@@ -97,7 +105,7 @@ pub fn return_from_interrupt(image: &mut [u8]) -> Answer
     requires { ⌜ length (now image) ≡ imageLength ⌝ }
     ensures { λ a. ⌜ change a (now (image .exit)) ≡ returnOf (now (image .entry)) ⌝ }
 {
-    if image[MARK] != 0 {
+    if in_service(image) {
         image[MARK] = 0;
         return Answer::Returned;
     }

@@ -12,8 +12,8 @@ use rules::Refusal;
 use std::num::wrapping_sub_u8;
 ghost use mathlib.Core.Path.{_≡_};
 ghost use mathlib.Core.Bool.{true};
-ghost use Prim.Native.Nat.{_≤_, _<_};
-ghost use lib.ListN.{length};
+ghost use Prim.Native.Nat.{_+_, _≤_, _<_};
+ghost use lib.ListN.{length, set};
 ghost use Rattle.rules.specs.Image.{imageLength, at};
 ghost use Rattle.rules.specs.Channels.{recordOk, dataByte, idcrByte};
 ghost use Rattle.rules.specs.Outcomes.{change};
@@ -39,6 +39,15 @@ fn less_one(count: u8) -> u8
     wrapping_sub_u8(count, 1)
 }
 
+// Rn and R(n+1) take the address that was read first, plus one, and the new counter.
+fn advance(image: &mut [u8], n: usize, address: u8, count: u8)
+    requires { ⌜ (n + 1 < length (now image)) × (address ≤ lastRegister) ⌝ }
+    ensures { λ _. ⌜ now (image .exit) ≡ set (set (now (image .entry)) n (address + 1)) (n + 1) count ⌝ }
+{
+    image[n] = address + 1;
+    image[n + 1] = count;
+}
+
 // IP is cleared; at the end of a block DM is, and IP becomes IM.
 fn settle(image: &mut [u8], c: Channel, idcr: usize, ended: bool)
     requires { ⌜ (length (now image) ≡ imageLength) × (idcr ≡ idcrByte c) × (idcr < imageLength) ⌝ }
@@ -61,8 +70,7 @@ fn serve(image: &mut [u8], c: Channel, n: usize, source: u8) -> Answer
     let address = image[n];
     let count = less_one(image[n + 1]);
     move_byte(image, c, page_byte(c.page, c.io), address);
-    image[n] = address + 1;
-    image[n + 1] = count;
+    advance(image, n, address, count);
     let ended = count == 0;
     settle(image, c, page_byte(c.page, c.idcr), ended);
     Answer::Transferred { source, ended }
@@ -74,7 +82,8 @@ pub fn transfer(image: &mut [u8], c: Channel, source: u8) -> Answer
     ensures { λ a. ⌜ change a (now (image .exit)) ≡ transferOf (now (image .entry)) c source ⌝ }
 {
     let dcpr = image[page_byte(c.page, c.dcpr)];
-    if dcpr % 2 == 0 {
+    let memory = dcpr % 2 == 0;
+    if memory {
         return Answer::Refused(Refusal::Memory);
     }
     let n = (dcpr / 2 * 2) as usize;

@@ -3,7 +3,6 @@
 use mathlib.Core.Path.{_≡_, sym, _∙_}
 use Prim.Native.Nat.{_-_, _<_, _≤_}
 use borrow.Author.Needs.{needs}
-use borrow.Author.Tests.{eq-eqb, ne-eqb}
 use denote.Ref.{now}
 use Rattle.rules.specs.Channels.{listOf}
 use Rattle.rules.specs.Sources.{sources}
@@ -15,29 +14,33 @@ use Rattle.arbiter.proofs.arbitrate.Tie as tie
 
 -- past the mark and the top level, the winner decides
 gets :
-    (c : tie.After-winner-of) → arbitration (now (c .before .before .before .before .before .before .before .before .args .image)) (listOf (c .before .before .before .before .before .before .before .before .args .t2))
-    ≡ granted (now (c .before .before .before .before .before .before .before .before .args .image)) (listOf (c .before .before .before .before .before .before .before .before .args .t2)) (c .winner-of .result)
+    (c : tie.After-winner-of) → arbitration (now (c .before .before .before .before .before .before .before .before .before .args .image)) (listOf (c .before .before .before .before .before .before .before .before .before .args .t2))
+    ≡ granted (now (c .before .before .before .before .before .before .before .before .before .args .image)) (listOf (c .before .before .before .before .before .before .before .before .before .args .t2)) (c .winner-of .result)
 unfolding arbitration
 gets c =
     let d = c .before .before in
-    simp (eq-eqb _ _ (d .before .before .before .if1 .left), sym (d .before .top-level .ensures) ∙ d .if2 .left, c .winner-of .ensures)
+    let e = d .before .before .before in
+    simp (sym (e .before .in-service .ensures) ∙ e .if1 .left, sym (d .before .top-level .ensures) ∙ d .if2 .left, c .winner-of .ensures)
 
 -- the source of a DMA winner is a record's,
-there : (c : tie.After-source) → (c .source .given .0 .0 < sources (listOf (c .before .before .before .before .before .before .before .before .before .before .args .t2))) × (8 ≤ c .source .given .0 .0)
+there : (c : tie.After-source) → (c .source .given .0 .0 < sources (listOf (c .before .before .before .before .before .before .before .before .before .before .before .args .t2))) × (8 ≤ c .source .given .0 .0)
 there c = dma-winner _ _ _ (sym (c .before .before .winner-of .ensures) ∙ c .source .given .1)
 
 -- which is within the rules
-taken : (c : tie.After-source) → Taken (c .before .before .before .before .before .before .before .before .before .before .args .t2) (c .source .given .0 .0 - 8)
+taken : (c : tie.After-source) → Taken (c .before .before .before .before .before .before .before .before .before .before .before .args .t2) (c .source .given .0 .0 - 8)
 taken c =
-    let s = c .before .before .before .before .before .before .before .before .before .before in
+    let s = c .before .before .before .before .before .before .before .before .before .before .before in
     source-taken _ _ (s .good .1 .0) (s .pre .1) (there c .0) (there c .1)
 
-slice-read-if1 : tie.Need-slice-read-if1
-slice-read-if1 c = search needs
+in-service-requires : tie.Need-in-service-requires
+in-service-requires c κs = search needs
+
+same-length : tie.Need-same-length
+same-length c = search needs
 
 returns : tie.Need-returns
 unfolding arbitration
-returns c = simp (ne-eqb _ _ (c .if1 .taken))
+returns c = simp (sym (c .before .in-service .ensures) ∙ c .if1 .taken)
 
 top-level-requires : tie.Need-top-level-requires
 top-level-requires c κs = search needs
@@ -45,14 +48,15 @@ top-level-requires c κs = search needs
 enter-top-requires : tie.Need-enter-top-requires
 enter-top-requires c κs = search needs
 
-same-length : tie.Need-same-length
-same-length c = search needs
+same-length-2 : tie.Need-same-length-2
+same-length-2 c = search needs
 
 returns-2 : tie.Need-returns-2
 unfolding arbitration
 returns-2 c =
     let d = c .before .before .before .before in
-    simp (eq-eqb _ _ (d .before .before .before .if1 .left), sym (d .before .top-level .ensures) ∙ d .if2 .taken, c .before .before .enter-top .ensures)
+    let e = d .before .before .before in
+    simp (sym (e .before .in-service .ensures) ∙ e .if1 .left, sym (d .before .top-level .ensures) ∙ d .if2 .taken, c .before .before .enter-top .ensures)
 
 winner-of-requires : tie.Need-winner-of-requires
 winner-of-requires c κs = search needs
@@ -86,19 +90,19 @@ enum-known-source-2 c = search needs
 acknowledge-requires : tie.Need-acknowledge-requires
 acknowledge-requires c κs =
     let d = c .before .before in
-    let s = d .before .before .before .before .before .before .before .before .before .before in
+    let s = d .before .before .before .before .before .before .before .before .before .before .before in
     let w = interrupt-winner _ _ _ _ (sym (d .before .before .winner-of .ensures) ∙ d .source2 .given .1) in
     (s .pre .0, s .pre .1, w .0, w .1)
 
-same-length-2 : tie.Need-same-length-2
-same-length-2 c = search needs
+same-length-3 : tie.Need-same-length-3
+same-length-3 c = search needs
 
 returns-3 : tie.Need-returns-3
 unfolding granted
 returns-3 c = simp (gets (c .before .before), c .enum-told .given .1)
 
-same-length-3 : tie.Need-same-length-3
-same-length-3 c = search needs
+same-length-4 : tie.Need-same-length-4
+same-length-4 c = search needs
 
 returns-4 : tie.Need-returns-4
 unfolding granted
@@ -106,8 +110,8 @@ returns-4 c =
     let d = c .before .before .before .before .before .before in
     simp (gets (d .before .before), d .source .given .1, taken d .same, c .before .before .transfer .ensures)
 
-same-length-4 : tie.Need-same-length-4
-same-length-4 c = search needs
+same-length-5 : tie.Need-same-length-5
+same-length-5 c = search needs
 
 returns-5 : tie.Need-returns-5
 unfolding granted
@@ -119,11 +123,12 @@ pub arbitrate-spec : {M : Type 1} → statement M
 arbitrate-spec =
     tie.close
     (tie.spec
-    slice-read-if1
+    in-service-requires
+    same-length
     returns
     top-level-requires
     enter-top-requires
-    same-length
+    same-length-2
     returns-2
     winner-of-requires
     enum-told
@@ -135,9 +140,9 @@ arbitrate-spec =
     transfer-requires
     enum-known-source-2
     acknowledge-requires
-    same-length-2
-    returns-3
     same-length-3
-    returns-4
+    returns-3
     same-length-4
+    returns-4
+    same-length-5
     returns-5)

@@ -1,12 +1,12 @@
 -- The mark decides as in the definition: it is cleared alone, or `unnest` makes the nested part and IEN is put after it.
+use mathlib.Core.Path.{sym, _∙_}
 use borrow.Author.Needs.{needs}
-use borrow.Author.Tests.{eq-eqb, ne-eqb}
 use Rattle.rules.specs.Return.{returned, returnOf}
 use Rattle.arbiter.proofs.return_from_interrupt.Statement.{statement}
 use Rattle.arbiter.proofs.return_from_interrupt.Tie as tie
 
-slice-read-if1 : tie.Need-slice-read-if1
-slice-read-if1 c = search needs
+in-service-requires : tie.Need-in-service-requires
+in-service-requires c κs = search needs
 
 slice-write-image : tie.Need-slice-write-image
 slice-write-image c = search needs
@@ -16,7 +16,7 @@ same-length c = search needs
 
 returns : tie.Need-returns
 unfolding returnOf returned
-returns c = simp (ne-eqb _ _ (c .if1 .taken))
+returns c = simp (sym (c .before .in-service .ensures) ∙ c .if1 .taken)
 
 unnest-requires : tie.Need-unnest-requires
 unnest-requires c κs = search needs
@@ -31,13 +31,14 @@ returns-2 : tie.Need-returns-2
 unfolding returnOf returned
 returns-2 c =
     let u = c .before .before .before .before .before .before in
-    simp (eq-eqb _ _ (u .before .before .if1 .left), c .before .before .put-at .ensures, u .unnest .ensures)
+    let d = u .before .before in
+    simp (sym (d .before .in-service .ensures) ∙ d .if1 .left, c .before .before .put-at .ensures, u .unnest .ensures)
 
 pub return-from-interrupt-spec : {M : Type 1} → statement M
 return-from-interrupt-spec =
     tie.close
     (tie.spec
-    slice-read-if1
+    in-service-requires
     slice-write-image
     same-length
     returns

@@ -32,46 +32,34 @@ move-byte-requires c κs =
     let io = register-place (s .args .c) (s .pre .1) 4 (omega arith) _ (c .page-byte .ensures) in
     (s .pre .0, io .0, io .1)
 
-add-image : tie.Need-add-image
-add-image c = search needs
-
-slice-write-image : tie.Need-slice-write-image
-slice-write-image c = search needs
-
-add-image-2 : tie.Need-add-image-2
-add-image-2 c = search needs
-
-slice-write-image-2 : tie.Need-slice-write-image-2
-slice-write-image-2 c =
-    let m = c .before .before in
-    let s = m .before .before .before .before .before .before .before in
-    simp length-set (omega (arith, m .move-byte .kept .0, s .pre .0, s .pre .3))
+advance-requires : tie.Need-advance-requires
+advance-requires c κs = search needs
 
 page-byte-requires-2 : tie.Need-page-byte-requires-2
 page-byte-requires-2 c κs =
-    let s = c .before .before .before .before .before .before .before .before .before .before in
+    let m = c .before .before .before .before .before .before .before in
+    let s = m .before .before .before .before .before .before .before in
     record-in-range (s .args .c) (s .pre .1) .register-low 0 (omega arith)
 
 settle-requires : tie.Need-settle-requires
 settle-requires c κs =
-    let m = c .before .before .before .before in
+    let m = c .before .before .before .before .before .before .before .before in
     let s = m .before .before .before .before .before .before .before in
     let idcr = register-place (s .args .c) (s .pre .1) 0 (omega arith) _ (c .page-byte2 .ensures) in
-    (simp length-set (m .move-byte .kept .0 ∙ s .pre .0), idcr .0, idcr .1)
+    (c .before .before .before .before .advance .kept .0 ∙ m .move-byte .kept .0 ∙ s .pre .0, idcr .0, idcr .1)
 
 same-length : tie.Need-same-length
-same-length c =
-    let d = c .before .before in
-    d .settle .kept .0 ∙ simp length-set (d .before .before .before .before .before .move-byte .kept .0)
+same-length c = search needs
 
 returns : tie.Need-returns
 unfolding served transferred advanced
 returns c =
     let d = c .before .before in
-    let m = d .before .before .before .before .before in
+    let a = d .before .before .before .before .before in
+    let m = a .before .before .before .before in
     let l = m .before .before .before in
     let s = l .before .before .before .before in
-    simp (d .settle .ensures, m .move-byte .ensures, l .less-one .ensures, s .pre .2)
+    simp (d .settle .ensures, a .advance .ensures, m .move-byte .ensures, l .less-one .ensures, s .pre .2)
 
 pub serve-spec : {M : Type 1} → statement M
 serve-spec =
@@ -83,10 +71,7 @@ serve-spec =
     less-one-requires
     page-byte-requires
     move-byte-requires
-    add-image
-    slice-write-image
-    add-image-2
-    slice-write-image-2
+    advance-requires
     page-byte-requires-2
     settle-requires
     same-length

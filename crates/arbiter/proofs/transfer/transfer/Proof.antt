@@ -3,7 +3,7 @@ use mathlib.Core.Path.{sym}
 use Prim.Native.Nat.{_*_, _/_}
 use native.Mathlib.Omega.{arith}
 use borrow.Author.Needs.{needs}
-use borrow.Author.Tests.{lt-ltb, le-ltb, eq-eqb, ne-eqb}
+use borrow.Author.Tests.{lt-ltb, le-ltb}
 use Rattle.rules.specs.Image.{at}
 use Rattle.rules.specs.Channels.{dcprByte}
 use Rattle.rules.specs.Transfer.{pairOf, transferOf}
@@ -22,7 +22,7 @@ slice-read-dcpr c =
 
 returns : tie.Need-returns
 unfolding transferOf dcprByte
-returns c = simp (sym (c .before .before .page-byte .ensures), eq-eqb _ _ (c .if1 .taken))
+returns c = simp (sym (c .before .before .page-byte .ensures), c .if1 .taken)
 
 mul-n : tie.Need-mul-n
 mul-n c = omega (arith, c .before .slice-known2 .given (c .before .before .page-byte .result))
@@ -34,7 +34,7 @@ returns-2 : tie.Need-returns-2
 unfolding transferOf dcprByte pairOf
 returns-2 c =
     let d = c .before in
-    simp (sym (d .before .before .page-byte .ensures), ne-eqb _ _ (d .if1 .left), lt-ltb _ _ (c .if2 .taken))
+    simp (sym (d .before .before .page-byte .ensures), d .if1 .left, lt-ltb _ _ (c .if2 .taken))
 
 slice-read-if3 : tie.Need-slice-read-if3
 slice-read-if3 c = search needs
@@ -49,7 +49,7 @@ unfolding transferOf dcprByte pairOf
 returns-3 c =
     let d = c .before .before in
     let e = d .before in
-    simp (sym (e .before .before .page-byte .ensures), ne-eqb _ _ (e .if1 .left), le-ltb _ _ (d .if2 .left), lt-ltb _ _ (c .if3 .taken))
+    simp (sym (e .before .before .page-byte .ensures), e .if1 .left, le-ltb _ _ (d .if2 .left), lt-ltb _ _ (c .if3 .taken))
 
 serve-requires : tie.Need-serve-requires
 unfolding dcprByte pairOf
@@ -72,7 +72,7 @@ returns-4 c =
     let h = g .before in
     simp (
       sym (h .before .before .page-byte .ensures),
-      ne-eqb _ _ (h .if1 .left),
+      h .if1 .left,
       le-ltb _ _ (g .if2 .left),
       le-ltb _ _ (e .if3 .left),
       d .serve .ensures,
