@@ -1,12 +1,12 @@
 -- The source of a winner, and the record of a source, as code takes it from a list by value. Assumes nothing.
 use mathlib.Core.Path.{_≡_, refl}
 use mathlib.Core.Logic.{_⊎_, inl, inr}
-use mathlib.Core.Bool.{Bool, true, false, false≢true, cond}
+use mathlib.Core.Bool.{Bool, true, false, cond}
 use mathlib.Core.List.{List}
 use Prim.Native.Nat.{ℕ, _-_, _≤_, _<_}
 use native.Mathlib.Omega.{arith}
 use lib.Dec.{eqb, ltb}
-use borrow.Author.Tests.{eqb-true, ltb-false}
+use borrow.Author.Tests.{eqb-true, ltb-true, ltb-false}
 use mir.Val.{Val}
 use denote.Laws.{Is}
 use Rattle.rules.specs.declared.Channels.{Channels}
@@ -16,7 +16,8 @@ use Rattle.rules.specs.declared.Winner.the-variants as winner
 use Rattle.rules.specs.Image.{Image}
 use Rattle.rules.specs.Sources.{sources, dmaEnabled}
 use Rattle.rules.specs.Requests.{wonBy, winnerOf}
-use Rattle.rules.proofs.Bools.{impossible, true-or}
+use Rattle.rules.proofs.Bools.{impossible, not-both, true-or}
+use Rattle.rules.proofs.FieldLaws.{external-source}
 use Rattle.rules.proofs.WinnerLaws.{Wins, Kinds, winner-first, asks-requests}
 use Rattle.rules.proofs.Channels as S
 use Rattle.channels.proofs.ItemLaws.{Taken, list-count, item-taken}
@@ -45,11 +46,10 @@ won-interrupt l k p s x e = go (eqb k 0) e
 
 -- no external channel has DMA
 enabled-record : (m : Image) (cs : List Channel) (s : ℕ) → dmaEnabled m cs s ≡ true → 8 ≤ s
-unfolding dmaEnabled
 enabled-record m cs s e = go (true-or (ltb s 8))
   where
     go : (ltb s 8 ≡ true) ⊎ (ltb s 8 ≡ false) → 8 ≤ s
-    go (inl t) = absurd (false≢true (rw t at e))
+    go (inl t) = absurd (not-both (dmaEnabled m cs s) e (external-source m cs s (ltb-true s 8 t) .2))
     go (inr f) = ltb-false s 8 f
 
 -- a DMA winner is the source of a record

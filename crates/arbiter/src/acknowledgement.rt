@@ -1,6 +1,6 @@
 // What an interrupt that has won gets.
+use crate::fields::put_at;
 use crate::nesting::nest;
-use crate::places::put_at;
 use channels::page_byte;
 use rules::Answer;
 use rules::CICR;

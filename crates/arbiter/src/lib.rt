@@ -1,14 +1,14 @@
 // Triggers, arbitration and the return.
 mod acknowledgement;
+mod fields;
 mod nesting;
-mod places;
 mod transfer;
 mod triggers;
 
 use acknowledgement::acknowledge;
 use bits::has_bit;
+use fields::put_at;
 use nesting::unnest;
-use places::put_at;
 use requests::winner_of;
 use rules::Answer;
 use rules::CICR;

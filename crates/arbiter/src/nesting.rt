@@ -1,6 +1,6 @@
 // The levels of nested mode: pushed at an acknowledgement, popped at a return.
-use crate::places::put_at;
-use crate::places::put_cpl;
+use crate::fields::put_at;
+use crate::fields::put_cpl;
 use bits::has_bit;
 use rules::CICR;
 use rules::IAM;

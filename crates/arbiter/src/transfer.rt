@@ -1,5 +1,5 @@
 // What a DMA request that has won gets.
-use crate::places::put_at;
+use crate::fields::put_at;
 use bits::has_bit;
 use channels::page_byte;
 use rules::Answer;
@@ -15,15 +15,16 @@ ghost use mathlib.Core.Bool.{true};
 ghost use Prim.Native.Nat.{_+_, _≤_, _<_};
 ghost use lib.ListN.{length, set};
 ghost use Rattle.rules.specs.Image.{imageLength, at};
-ghost use Rattle.rules.specs.Channels.{recordOk, dataByte, idcrByte};
+ghost use Rattle.rules.specs.Channels.{recordOk};
 ghost use Rattle.rules.specs.Outcomes.{change};
 ghost use Rattle.rules.specs.Transfer.{pairOf, lastRegister, movedByte, lessOne, settled, served, transferOf};
 
-// Moves a byte between the data register, at byte `io`, and Ra.
-fn move_byte(image: &mut [u8], c: Channel, io: usize, a: u8)
-    requires { ⌜ (length (now image) ≡ imageLength) × (io ≡ dataByte c) × (io < imageLength) ⌝ }
+// Moves a byte between the data register and Ra.
+fn move_byte(image: &mut [u8], c: Channel, a: u8)
+    requires { ⌜ (length (now image) ≡ imageLength) × (recordOk c ≡ true) ⌝ }
     ensures { λ _. ⌜ now (image .exit) ≡ movedByte (now (image .entry)) c a ⌝ }
 {
+    let io = page_byte(c.page, c.io);
     let address = a as usize;
     if c.direction == 0 {
         image[address] = image[io];
@@ -49,10 +50,11 @@ fn advance(image: &mut [u8], n: usize, address: u8, count: u8)
 }
 
 // IP is cleared; at the end of a block DM is, and IP becomes IM.
-fn settle(image: &mut [u8], c: Channel, idcr: usize, ended: bool)
-    requires { ⌜ (length (now image) ≡ imageLength) × (idcr ≡ idcrByte c) × (idcr < imageLength) ⌝ }
+fn settle(image: &mut [u8], c: Channel, ended: bool)
+    requires { ⌜ (length (now image) ≡ imageLength) × (recordOk c ≡ true) ⌝ }
     ensures { λ _. ⌜ now (image .exit) ≡ settled (now (image .entry)) c ended ⌝ }
 {
+    let idcr = page_byte(c.page, c.idcr);
     if ended {
         let im = has_bit(image[idcr], IM);
         put_at(image, idcr, DM, false);
@@ -69,10 +71,10 @@ fn serve(image: &mut [u8], c: Channel, n: usize, source: u8) -> Answer
 {
     let address = image[n];
     let count = less_one(image[n + 1]);
-    move_byte(image, c, page_byte(c.page, c.io), address);
+    move_byte(image, c, address);
     advance(image, n, address, count);
     let ended = count == 0;
-    settle(image, c, page_byte(c.page, c.idcr), ended);
+    settle(image, c, ended);
     Answer::Transferred { source, ended }
 }
 

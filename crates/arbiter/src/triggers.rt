@@ -1,5 +1,5 @@
 // What each kind of trigger selects, sets and answers.
-use crate::places::put_at;
+use crate::fields::put_at;
 use bits::has_bit;
 use channels::page_byte;
 use rules::Answer;

@@ -114,11 +114,7 @@ fn read_other_records() {
 // page 63 at 1248 to 1263.
 
 fn show_write(image: [u8; IMAGE_LENGTH], register: u32, value: u8) {
-    text(b", write ");
-    report::byte(value);
-    text(b" to R");
-    report::number(register as u64);
-    text(b": ");
+    text(b", ");
     steps::write(image, records(), register, value);
 }
 
@@ -231,7 +227,7 @@ fn write_unmodelled() {
 
 fn show_reset(start: &[u8], image: [u8; IMAGE_LENGTH]) {
     text(start);
-    text(b", reset: ");
+    text(b", ");
     steps::reset(image);
 }
 

@@ -168,8 +168,9 @@ fn stored_byte(i: usize, b: u8) {
     }
 }
 
-// A label, and every byte of an image that is not 0, to the end of the line.
+// A line that starts a case: `#`, a label, and every byte of an image that is not 0.
 pub fn start(label: &[u8], image: [u8; IMAGE_LENGTH]) {
+    text(b"# ");
     text(label);
     for i in 0..IMAGE_LENGTH {
         stored_byte(i, image[i]);

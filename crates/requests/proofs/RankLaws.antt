@@ -3,7 +3,7 @@ use mathlib.Core.Path.{_≡_, refl, sym, _∙_}
 use mathlib.Core.Logic.{_≢_}
 use mathlib.Core.Bool.{Bool, true, false, cond, _&&_}
 use mathlib.Core.List.{List}
-use Prim.Native.Nat.{ℕ, _+_, _-_, _*_, _≤_, _<_}
+use Prim.Native.Nat.{ℕ, _+_, _*_, _≤_, _<_}
 use native.Mathlib.Omega.{arith}
 use native.Mathlib.Nat.{not-suc-le-zero}
 use native.Mathlib.Decide.{ℕ-discrete}
@@ -20,6 +20,7 @@ use Rattle.rules.specs.declared.Winner.the-variants as winner
 use Rattle.rules.specs.Image.{Image, at, has, IEN, CPL, EIPR, EIMR, EIPLR}
 use Rattle.rules.specs.Channels.{recordAt, idcrByte}
 use Rattle.rules.specs.Sources.{sources, pendingBit, pending, unmasked, dmaEnabled, externalLevel, level}
+use Rattle.rules.proofs.PendingLaws.{record-of}
 use Rattle.rules.specs.Requests.{requestOf, eligible, isAt, wonBy, candidate, winnerOfKind, winnerAtLevel, winnerOf}
 use Rattle.requests.specs.Ranks.{recordRequest, noRank, rankOf, positionLimit, NoneBelow, RanksBelow, found, foundOfKind, foundAtLevel, scanned}
 use Rattle.requests.proofs.FirstLaws.{first-none, first-same}
@@ -35,7 +36,7 @@ external-requests m cs k h = rw (lt-ltb k 8 h)
 -- record k, which is source 8 + k, requests what its IDCR says
 pub record-requests : (m : Image) (cs : List Channel) (k : ℕ) → recordRequest (at m (idcrByte (recordAt cs k))) ≡ requestOf m cs (8 + k)
 unfolding recordRequest requestOf pending pendingBit unmasked dmaEnabled level
-record-requests m cs k = let e : 8 + k - 8 ≡ k = omega arith in rw (le-ltb (8 + k) 8 (omega arith), e)
+record-requests m cs k = rw (le-ltb (8 + k) 8 (omega arith), record-of cs k)
 
 -- ---- a rank says level and kind of an eligible request
 

@@ -1,4 +1,5 @@
--- The ranks that the search for the winner goes by: level and kind of an eligible request in one number. Assumes nothing.
+-- The ranks that the search for the winner goes by: level and kind of an eligible request in one number. Positions are not in it: the search goes over
+-- them within a rank. Assumes nothing.
 use mathlib.Core.Path.{_≡_}
 use mathlib.Core.Bool.{cond}
 use mathlib.Core.List.{List}

@@ -17,7 +17,7 @@ use rules::Winner;
 ghost use mathlib.Core.Path.{_≡_};
 ghost use mathlib.Core.Bool.{true};
 ghost use mathlib.Core.List.{List};
-ghost use Prim.Native.Nat.{_+_, _<_, _≤_};
+ghost use Prim.Native.Nat.{_+_, _<_, _≤_, min};
 ghost use lib.ListN.{length};
 ghost use Rattle.rules.specs.declared.Channel.{Channel};
 ghost use Rattle.rules.specs.Image.{imageLength};
@@ -29,7 +29,7 @@ ghost use Rattle.requests.specs.Ranks.{recordRequest, rankOf, positionLi
 // The most positions there can be.
 const POSITIONS: usize = EXTERNALS + MOST_RECORDS;
 
-// The rank of what is not eligible. Eligible requests have 0 to 15.
+// The rank of what is not eligible; that of an eligible request is below it.
 const NO_RANK: u8 = 16;
 
 // The level of external channel k: its group's field of EIPLR, and k modulo 2.
@@ -54,7 +54,7 @@ fn external_request(image: &[u8], k: u8) -> Request
 }
 
 // What a record requests, by its IDCR.
-fn record_request(idcr: u8) -> Request
+fn request_by(idcr: u8) -> Request
     ensures { λ r. ⌜ r ≡ recordRequest idcr ⌝ }
 {
     if has_bit(idcr, IP) {
@@ -83,8 +83,10 @@ fn rank_of(image: &[u8], request: Request) -> u8
             NO_RANK
         }
         Request::Interrupt(level) => {
-            if has_bit(cicr, IEN) & (level < cicr % 8) {
-                return 2 * level + 1;
+            if has_bit(cicr, IEN) {
+                if level < cicr % 8 {
+                    return 2 * level + 1;
+                }
             }
             NO_RANK
         }
@@ -93,7 +95,7 @@ fn rank_of(image: &[u8], request: Request) -> u8
 
 // The smaller of two ranks.
 fn lower(a: u8, b: u8) -> u8
-    ensures { λ r. ⌜ (r ≤ a) × (r ≤ b) ⌝ }
+    ensures { λ r. ⌜ r ≡ min a b ⌝ }
 {
     if a < b {
         return a;
@@ -133,7 +135,8 @@ fn gather(image: &[u8], all: Channels) -> Gathered
     for k in 0..all.count {
         let c = all.items[k];
         let idcr = image[page_byte(c.page, c.idcr)];
-        let rank = rank_of(image, record_request(idcr));
+        let rank = rank_of(image, request_by(idcr));
+        // Most records have none: nothing to store.
         if rank == NO_RANK {
             continue;
         }

@@ -3,7 +3,7 @@
 use mathlib.Core.Path.{_≡_, refl, ap}
 use mathlib.Core.List.{List}
 use mathlib.Core.Bool.{Bool, true, false, not}
-use Prim.Native.Nat.{ℕ, _+_, _-_, _*_, _/_, _%_, _^_, _<_}
+use Prim.Native.Nat.{ℕ, _+_, _*_, _/_, _%_, _^_, _<_}
 use native.Mathlib.Omega.{arith}
 use lib.Dec.{eqb}
 use borrow.Author.Tests.{lt-ltb, le-ltb, ne-eqb}
@@ -12,6 +12,7 @@ use Rattle.rules.specs.declared.Channel.{Channel}
 use Rattle.rules.specs.Image.{Image, at, has, bitOf, inService, EITR, CPL, TLIP, TLI, IEN, IAM, TLTEV, TLIS, IAOS, TLNM, HL}
 use Rattle.rules.specs.Channels.{recordAt, idcrByte}
 use Rattle.rules.specs.Sources.{pendingBit, pending, unmasked, dmaEnabled, level}
+use Rattle.rules.proofs.PendingLaws.{record-of}
 use Rattle.rules.proofs.LevelLaws.{external-level}
 
 -- the bit of weight w is 1
@@ -56,6 +57,4 @@ module _ (m : Image) where
       → (pending m cs (8 + k) ≡ weighs 32 (at m (idcrByte (recordAt cs k)))) × (dmaEnabled m cs (8 + k) ≡ weighs 16 (at m (idcrByte (recordAt cs k))))
       × (unmasked m cs (8 + k) ≡ weighs 8 (at m (idcrByte (recordAt cs k)))) × (level m cs (8 + k) ≡ at m (idcrByte (recordAt cs k)) % 8)
   unfolding bit digit pendingBit pending unmasked dmaEnabled level
-  record-source cs k =
-      let e : 8 + k - 8 ≡ k = omega arith in
-      rw (le-ltb (8 + k) 8 (omega arith), e) (refl, refl, refl, refl)
+  record-source cs k = rw (le-ltb (8 + k) 8 (omega arith), record-of cs k) (refl, refl, refl, refl)

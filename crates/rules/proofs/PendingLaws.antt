@@ -4,7 +4,7 @@ use mathlib.Core.Path.{_≡_, sym, ap}
 use mathlib.Core.Logic.{_≢_, inl, inr}
 use mathlib.Core.List.{List}
 use mathlib.Core.Bool.{Bool, true}
-use Prim.Native.Nat.{ℕ, _-_, _≤_, _<_}
+use Prim.Native.Nat.{ℕ, _+_, _-_, _≤_, _<_}
 use native.Mathlib.Omega.{arith}
 use lib.Dec.{lit<}
 use lib.ListN.{length}
@@ -12,11 +12,15 @@ use borrow.Author.Tests.{ltb-true, ltb-false}
 use Rattle.rules.specs.declared.Channel.{Channel}
 use Rattle.bits.specs.Bits.{bit}
 use Rattle.rules.specs.Image.{Image, imageLength, at, CICR, EIPR, NICR, MARK, Bit, bitOf, put}
-use Rattle.rules.specs.Channels.{idcrByte, listOk}
+use Rattle.rules.specs.Channels.{recordAt, idcrByte, listOk}
 use Rattle.rules.specs.Sources.{sources, external, recordOf, IP, pendingBit, pending}
 use Rattle.rules.proofs.Bools.{cond-elim}
 use Rattle.rules.proofs.ImageLaws.{Apart, has-put-same, has-put-other}
 use Rattle.rules.proofs.ChannelLaws.{OnPage, register-range, registers-apart}
+
+-- source 8 + k is record k
+pub record-of : (cs : List Channel) (k : ℕ) → recordOf cs (8 + k) ≡ recordAt cs k
+record-of cs k = let e : 8 + k - 8 ≡ k = omega arith in rw e
 
 module _ (cs : List Channel) (ok : listOk cs ≡ true) where
   -- a record's IDCR is on pages 1 to 63

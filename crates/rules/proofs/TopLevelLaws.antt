@@ -4,7 +4,7 @@ use mathlib.Core.Path.{_≡_, sym, ap, _∙_}
 use mathlib.Core.Logic.{_≢_, inr}
 use mathlib.Core.List.{List}
 use mathlib.Core.Bool.{true, false, not, _&&_, and-comm}
-use Prim.Native.Nat.{ℕ, _+_, _-_, _%_, _<_}
+use Prim.Native.Nat.{ℕ, _+_, _%_, _<_}
 use native.Mathlib.Omega.{arith}
 use native.Mathlib.Decide.{ℕ-discrete}
 use lib.Dec.{lit<, lit≤, eqb}
@@ -22,6 +22,7 @@ use Rattle.rules.specs.Requests.{winnerOf}
 use Rattle.rules.specs.Transfer.{transferOf}
 use Rattle.rules.specs.Arbitration.{vectorOf, acknowledged, granted, topLevel, enteredTop, arbitration}
 use Rattle.rules.specs.Return.{returned}
+use Rattle.rules.proofs.PendingLaws.{record-of}
 use Rattle.rules.proofs.ImageLaws.{put-length, at-put-other, has-put-same, has-put-other, low-put}
 
 -- ---- the mark, the top level, and what is left to the winner
@@ -48,7 +49,7 @@ pub winner-gets : (m : Image) (cs : List Channel) → inService m ≡ false → 
 unfolding arbitration granted
 winner-gets m cs i t = (
   λ w. rw (i, t, w),
-  λ k w. let e : 8 + k - 8 ≡ k = omega arith in rw (i, t, w, e),
+  λ k w. rw (i, t, w, record-of cs k),
   λ s l w. rw (i, t, w),
 )
 

@@ -1,5 +1,5 @@
-// One step on an image for the programs that run cases: it prints what the step answers and which bytes it changes, and answers the image after it.
-// A write and a reset are named by the program, the other steps here.
+// One step on an image for the programs that run cases: it prints the step, what it answers and which bytes it changes,
+// and answers the image after it.
 use report::number;
 use report::text;
 use rules::Answer;
@@ -58,6 +58,11 @@ pub fn write(
 ) -> [u8; IMAGE_LENGTH]
     ensures { λ m. ⌜ m ≡ listed (listOf all) image (writeOf image (listOf all) register value) .image ⌝ }
 {
+    text(b"write ");
+    report::byte(value);
+    text(b" to R");
+    number(register as u64);
+    text(b": ");
     let mut after = image;
     let a = answer_of_write(&mut after, all, register, value);
     report::outcome(a, image, after);
@@ -73,20 +78,20 @@ fn direction_name(direction: u8) {
 fn trigger_name(event: Trigger) {
     match event {
         Trigger::Pin { pin, direction } => {
-            text(b"  pin ");
+            text(b"pin ");
             number(pin as u64);
             direction_name(direction);
         }
-        Trigger::Watchdog => text(b"  watchdog"),
+        Trigger::Watchdog => text(b"watchdog"),
         Trigger::Nmi { direction } => {
-            text(b"  NMI");
+            text(b"NMI");
             direction_name(direction);
         }
         Trigger::Request { record } => {
-            text(b"  request ");
+            text(b"request ");
             number(record as u64);
         }
-        Trigger::Unknown => text(b"  unknown"),
+        Trigger::Unknown => text(b"unknown"),
     }
     text(b": ");
 }
@@ -106,7 +111,7 @@ pub fn trigger(image: [u8; IMAGE_LENGTH], all: Channels, event: Trigger) -> [u8;
 pub fn arbitrate(image: [u8; IMAGE_LENGTH], all: Channels) -> [u8; IMAGE_LENGTH]
     ensures { λ m. ⌜ m ≡ listed (listOf all) image (arbitration image (listOf all)) .image ⌝ }
 {
-    text(b"  arbitrate: ");
+    text(b"arbitrate: ");
     let mut after = image;
     let a = answer_of_arbitration(&mut after, all);
     report::outcome(a, image, after);
@@ -117,7 +122,7 @@ pub fn arbitrate(image: [u8; IMAGE_LENGTH], all: Channels) -> [u8; IMAGE_LENGTH]
 pub fn return_from_interrupt(image: [u8; IMAGE_LENGTH]) -> [u8; IMAGE_LENGTH]
     ensures { λ m. ⌜ m ≡ returnOf image .image ⌝ }
 {
-    text(b"  return: ");
+    text(b"return: ");
     let mut after = image;
     let a = arbiter::return_from_interrupt(&mut after);
     report::outcome(a, image, after);
@@ -128,6 +133,7 @@ pub fn return_from_interrupt(image: [u8; IMAGE_LENGTH]) -> [u8; IMAGE_LENGTH]
 pub fn reset(image: [u8; IMAGE_LENGTH]) -> [u8; IMAGE_LENGTH]
     ensures { λ m. ⌜ m ≡ resetOf image .image ⌝ }
 {
+    text(b"reset: ");
     let mut after = image;
     let a = registers::reset(&mut after);
     report::outcome(a, image, after);

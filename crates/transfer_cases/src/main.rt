@@ -2,6 +2,7 @@
 // and which bytes it changes. The expected output, beside this program, is written from document 01.
 use rules::Channels;
 use rules::IMAGE_LENGTH;
+use rules::NICR;
 use rules::Trigger;
 use samples::interrupts;
 use samples::one;
@@ -25,8 +26,8 @@ fn outward() -> Channels {
     one(reversed(usual(9)))
 }
 
-// The record with data 5Ah.
-fn record(cicr: u8, idcr: u8, dcpr: u8) -> [u8; IMAGE_LENGTH] {
+// An image with the record's registers, data 5Ah.
+fn record_image(cicr: u8, idcr: u8, dcpr: u8) -> [u8; IMAGE_LENGTH] {
     let m = interrupts(cicr, 0x00, 0x00, 0x00, 0x00);
     with_record(m, 9, idcr, 0x00, dcpr, 0x5A)
 }
@@ -35,7 +36,7 @@ fn record(cicr: u8, idcr: u8, dcpr: u8) -> [u8; IMAGE_LENGTH] {
 fn transfer(label: &[u8], all: Channels, idcr: u8, dcpr: u8, n: usize, address: u8, count: u8)
     requires { ⌜ n + 1 < imageLength ⌝ }
 {
-    let m = with(record(0x87, idcr, dcpr), 40, 0x77);
+    let m = with(record_image(0x87, idcr, dcpr), 40, 0x77);
     let o = with_pair(m, n, address, count);
     report::start(label, o);
     arbitrate(o, all);
@@ -86,7 +87,7 @@ fn pointers() {
 
 // The block's interrupt follows its end.
 fn end_of_block() {
-    let m = with_pair(record(0x97, 0x3A, 0x11), 16, 20, 2);
+    let m = with_pair(record_image(0x97, 0x3A, 0x11), 16, 20, 2);
     report::start(b"a block and its interrupt", m);
     let n = trigger(
         arbitrate(m, inward()),
@@ -96,10 +97,34 @@ fn end_of_block() {
     arbitrate(arbitrate(n, inward()), inward());
 }
 
-fn nested_transfer() {
-    let m = with_pair(record(0x9F, 0x32, 0x11), 16, 40, 5);
+// Neither CPL, nor NICR, nor IEN changes.
+fn nested_transfers() {
+    let m = with_pair(with(record_image(0x9D, 0x32, 0x11), NICR, 0xC1), 16, 40, 5);
     report::start(b"transfer in nested mode", m);
     arbitrate(m, inward());
+    let n = with_pair(record_image(0x8C, 0x32, 0x11), 16, 40, 5);
+    report::start(b"transfer in nested mode, interrupts disabled", n);
+    arbitrate(n, inward());
+}
+
+// One arbitration from CICR, with a record that would be served at a lower current level.
+fn at_level(label: &[u8], cicr: u8, idcr: u8, dcpr: u8) {
+    let m = with_pair(record_image(cicr, idcr, dcpr), 16, 40, 5);
+    report::start(label, m);
+    arbitrate(m, inward());
+}
+
+fn levels() {
+    at_level(b"level 5 at CPL 5", 0x95, 0x35, 0x11);
+    at_level(b"level 5 at CPL 5, memory", 0x95, 0x35, 0x10);
+    at_level(b"level 5 at CPL 6", 0x96, 0x35, 0x11);
+    at_level(b"level 7 at CPL 7", 0x87, 0x37, 0x11);
+    at_level(b"level 0 at CPL 0", 0x80, 0x30, 0x11);
+    at_level(b"level 0 at CPL 1", 0x81, 0x30, 0x11);
+    at_level(b"DM without IP, memory", 0x87, 0x12, 0x10);
+    at_level(b"DM without IP, pair over R223", 0x87, 0x1A, 0xE1);
+    at_level(b"GCEN 0", 0x07, 0x32, 0x11);
+    at_level(b"TLIP that is not served", 0xE7, 0x32, 0x11);
 }
 
 fn main() {
@@ -108,5 +133,6 @@ fn main() {
     counters();
     pointers();
     end_of_block();
-    nested_transfer();
+    nested_transfers();
+    levels();
 }

@@ -7,31 +7,34 @@ use rules::EITR;
 use rules::EIVR;
 use rules::IMAGE_LENGTH;
 use rules::MARK;
+use rules::PPR;
 use rules::Trigger;
+use samples::channel;
 use samples::filled;
 use samples::interrupts;
 use samples::one;
 use samples::repeated;
+use samples::three;
 use samples::twelve;
 use samples::usual;
 use samples::with;
 use steps::trigger;
 
 // The record on page 9.
-fn record() -> Channels {
+fn one_record() -> Channels {
     one(usual(9))
 }
 
 fn edge(image: [u8; IMAGE_LENGTH], pin: u32, direction: u8) -> [u8; IMAGE_LENGTH] {
-    trigger(image, record(), Trigger::Pin { pin, direction })
+    trigger(image, one_record(), Trigger::Pin { pin, direction })
 }
 
 fn watchdog(image: [u8; IMAGE_LENGTH]) -> [u8; IMAGE_LENGTH] {
-    trigger(image, record(), Trigger::Watchdog)
+    trigger(image, one_record(), Trigger::Watchdog)
 }
 
 fn nmi(image: [u8; IMAGE_LENGTH], direction: u8) -> [u8; IMAGE_LENGTH] {
-    trigger(image, record(), Trigger::Nmi { direction })
+    trigger(image, one_record(), Trigger::Nmi { direction })
 }
 
 fn request(image: [u8; IMAGE_LENGTH], all: Channels, k: u32) -> [u8; IMAGE_LENGTH] {
@@ -67,7 +70,7 @@ fn merged_pins() {
 
 fn refused_pins() {
     let image = filled(0xFF);
-    text(b"all bytes FFh\n");
+    text(b"# all bytes FFh\n");
     edge(image, 8, 1);
     edge(image, 256, 1);
     edge(image, 4294967295, 1);
@@ -82,6 +85,13 @@ fn masked_pin() {
     let image = with(interrupts(0x00, 0x00, 0x00, 0x00, 0x00), MARK, 0x01);
     report::start(b"masked, in service, level 0", image);
     edge(image, 3, 0);
+}
+
+// EIPR is page 0's R243, whatever page PPR selects.
+fn pin_with_page_9() {
+    let image = with(edges(0x00, 0x46), PPR, 0x24);
+    report::start(b"page 9 selected", image);
+    edge(image, 1, 0);
 }
 
 // ---- the watchdog and the NMI
@@ -118,16 +128,26 @@ fn every_nmi() {
     nmis(0x4C, 0xC7);
 }
 
+// The mark does not matter.
+fn top_level_in_service() {
+    let image = with(edges(0x00, 0x40), MARK, 0x01);
+    report::start(b"watchdog, in service", image);
+    watchdog(image);
+    let other = with(edges(0x00, 0x4C), MARK, 0x01);
+    report::start(b"NMI, in service", other);
+    nmi(other, 1);
+}
+
 // ---- channel requests
 
 fn requests() {
     let image = with(filled(0), 384, 0xCA);
     report::start(b"one record, page 9", image);
-    let after = request(image, record(), 0);
-    request(after, record(), 0);
-    request(image, record(), 1);
-    request(image, record(), 8);
-    request(image, record(), 4294967295);
+    let after = request(image, one_record(), 0);
+    request(after, one_record(), 0);
+    request(image, one_record(), 1);
+    request(image, one_record(), 8);
+    request(image, one_record(), 4294967295);
     request(image, repeated(usual(9), 0), 0);
 }
 
@@ -139,12 +159,27 @@ fn requests_of_twelve() {
     request(image, twelve(usual(12), 12), 12);
 }
 
+// Two records on page 9 with registers in another order.
+fn requests_by_register() {
+    let all = three(
+        channel(9, 255, 247, 250, 251, 252),
+        channel(9, 243, 249, 244, 240, 242),
+        usual(10),
+    );
+    let image = filled(0);
+    report::start(b"IDCR R255 and R243 of page 9, R240 of page 10", image);
+    request(image, all, 0);
+    request(image, all, 1);
+    request(image, all, 2);
+    request(image, all, 3);
+}
+
 // ---- a kind that is none of these
 
 fn unknown() {
     let image = filled(0);
     report::start(b"unknown kind", image);
-    trigger(image, record(), Trigger::Unknown);
+    trigger(image, one_record(), Trigger::Unknown);
 }
 
 fn main() {
@@ -154,9 +189,12 @@ fn main() {
     merged_pins();
     refused_pins();
     masked_pin();
+    pin_with_page_9();
     every_watchdog();
     every_nmi();
+    top_level_in_service();
     requests();
     requests_of_twelve();
+    requests_by_register();
     unknown();
 }

@@ -6,13 +6,19 @@ use Rattle.report.proofs.start.Statement.{statement}
 use Rattle.report.proofs.start.Tie as tie
 
 abbrev Inv-loop : tie.InvT-loop
-Inv-loop label image i₀ t5 i = i ≤ imageLength
+Inv-loop label image i₀ t6 i = i ≤ imageLength
 
 abbrev μ-loop : tie.MeasureT-loop
-μ-loop label image i₀ t5 i = imageLength - i
+μ-loop label image i₀ t6 i = imageLength - i
+
+slice-aggregate-text : tie.Need-slice-aggregate-text Inv-loop μ-loop
+slice-aggregate-text c = search needs
 
 text-requires : tie.Need-text-requires Inv-loop μ-loop
 text-requires c κs = search needs
+
+text-requires-2 : tie.Need-text-requires-2 Inv-loop μ-loop
+text-requires-2 c κs = search needs
 
 loop-holds : tie.Need-loop-holds Inv-loop μ-loop
 loop-holds c = search needs
@@ -32,11 +38,11 @@ loop-less c = search needs
 loop-again : tie.Need-loop-again Inv-loop μ-loop
 loop-again c = search needs
 
-slice-aggregate-text : tie.Need-slice-aggregate-text Inv-loop μ-loop
-slice-aggregate-text c = search needs
+slice-aggregate-text-2 : tie.Need-slice-aggregate-text-2 Inv-loop μ-loop
+slice-aggregate-text-2 c = search needs
 
-text-requires-2 : tie.Need-text-requires-2 Inv-loop μ-loop
-text-requires-2 c κs = search needs
+text-requires-3 : tie.Need-text-requires-3 Inv-loop μ-loop
+text-requires-3 c κs = search needs
 
 returns : tie.Need-returns Inv-loop μ-loop
 returns c = search needs
@@ -47,13 +53,15 @@ start-spec =
     (tie.spec
     Inv-loop
     μ-loop
+    slice-aggregate-text
     text-requires
+    text-requires-2
     loop-holds
     array-read-stored-byte
     stored-byte-requires
     add-i
     loop-less
     loop-again
-    slice-aggregate-text
-    text-requires-2
+    slice-aggregate-text-2
+    text-requires-3
     returns)

@@ -33,7 +33,7 @@ asks c =
     let same = sym (item-taken _ (s .good .1 .0) (s .pre .1) (d .before .loop .k) (d .loop-test .taken) .same) in
     c .rank-of .ensures
     ∙ ap (rankOf _)
-    (c .before .record-request .ensures
+    (c .before .request-by .ensures
     ∙ ap (λ (i : ℕ). recordRequest (at (now (s .args .image)) i)) (c .before .before .before .page-byte .ensures ∙ ap idcrByte same)
     ∙ record-requests _ (listOf (s .args .t2)) (d .before .loop .k))
 
@@ -63,8 +63,8 @@ shared-slice-read-idcr c =
     let t = item-taken _ (s .good .1 .0) (s .pre .1) (d .before .loop .k) (d .loop-test .taken) in
     omega (arith, s .pre .0, t .place 0 (omega arith) _ (c .before .page-byte .ensures) .1)
 
-record-request-requires : tie.Need-record-request-requires Inv-loop μ-loop
-record-request-requires c κs = search needs
+request-by-requires : tie.Need-request-by-requires Inv-loop μ-loop
+request-by-requires c κs = search needs
 
 rank-of-requires : tie.Need-rank-of-requires Inv-loop μ-loop
 rank-of-requires c κs = search needs
@@ -106,7 +106,7 @@ loop-again-2 c =
       i .1,
       simp length-set (i .2),
       rw e at
-          (ranks-more _ _ (d .loop .ranks) (8 + d .loop .k) _ _ (asks (c .before .before)) (i .3) (c .lower .result) (omega (arith, i .2)) (c .lower .ensures .0) (c .lower .ensures .1)),
+          (ranks-more _ _ (d .loop .ranks) (8 + d .loop .k) _ _ (asks (c .before .before)) (i .3) (c .lower .result) (omega (arith, i .2)) (omega (arith, c .lower .ensures)) (omega (arith, c .lower .ensures))),
     )
 
 returns : tie.Need-returns Inv-loop μ-loop
@@ -126,7 +126,7 @@ gather-spec =
     element-copy-out-c
     page-byte-requires
     shared-slice-read-idcr
-    record-request-requires
+    request-by-requires
     rank-of-requires
     add-k
     loop-less

@@ -50,7 +50,7 @@ loop-again c =
       λ cs.
           ranks-more _ cs (d .loop .ranks) (d .loop .k) (c .before .rank-of .result) (d .loop .least)
           (c .before .rank-of .ensures ∙ ap (rankOf _) (c .before .before .external-request .ensures cs)) (i .2 cs) (c .lower .result)
-          (omega (arith, i .1)) (c .lower .ensures .0) (c .lower .ensures .1),
+          (omega (arith, i .1)) (omega (arith, c .lower .ensures)) (omega (arith, c .lower .ensures)),
     )
 
 returns : tie.Need-returns Inv-loop μ-loop

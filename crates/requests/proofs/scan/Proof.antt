@@ -1,6 +1,6 @@
 -- Three loops with one invariant: nobody so far. A hit is the first of its kind and level, and so the first of all.
 use mathlib.Core.Path.{_≡_, refl, sym, _∙_}
-use Prim.Native.Nat.{_-_, _≤_}
+use Prim.Native.Nat.{_+_, _-_, _*_, _≤_, _<_}
 use native.Mathlib.Omega.{arith}
 use borrow.Author.Needs.{needs}
 use Rattle.rules.specs.declared.Winner.{Winner}
@@ -59,11 +59,10 @@ loop-less c = search needs
 
 loop-again : tie.Need-loop-again Inv-loop2 μ-loop2 Inv-loop μ-loop Inv-scan μ-scan
 loop-again c =
-    let d = c .before .before in (
-      d .loop .inv .0,
-      omega arith,
-      first-more _ _ (d .loop .inv .2) (found-below _ _ _ _ _ (d .before .before .before .pre .0) (d .before .before .before .pre .1) (c .if1 .taken)),
-    )
+    let d = c .before .before in
+    let s = d .before .before .before in
+    let below : 2 * d .before .before .scan .level + d .loop .kind < s .args .least = omega (arith, c .if1 .taken) in
+    (d .loop .inv .0, omega arith, first-more _ _ (d .loop .inv .2) (found-below _ _ _ _ _ (s .pre .0) (s .pre .1) below))
 
 loop2-holds : tie.Need-loop2-holds Inv-loop2 μ-loop2 Inv-loop μ-loop Inv-scan μ-scan
 unfolding first

@@ -1,7 +1,7 @@
 -- A record that is there is within the rules, so its IDCR lies in the image, and `raise` sets the definition's bit of it.
 use mathlib.Core.Path.{_≡_}
 use mathlib.Core.List.{List}
-use Prim.Native.Nat.{ℕ, _+_, _-_}
+use Prim.Native.Nat.{ℕ, _+_}
 use native.Mathlib.Omega.{arith}
 use borrow.Author.Needs.{needs}
 use borrow.Author.Tests.{lt-ltb, le-ltb}
@@ -9,6 +9,7 @@ use Rattle.rules.specs.declared.Channel.{Channel}
 use Rattle.rules.specs.Channels.{recordAt, listOf}
 use Rattle.rules.specs.Sources.{IP, pendingBit, pending}
 use Rattle.rules.specs.Triggers.{triggerVerdict, selects, selectsTop, sourceEffect, raiseSource, topEffect, raiseTop, fire, triggerOf}
+use Rattle.rules.proofs.PendingLaws.{record-of}
 use Rattle.channels.proofs.ItemLaws.{list-count, item-taken}
 use Rattle.arbiter.proofs.triggers.channel_request.Statement.{statement}
 use Rattle.arbiter.proofs.triggers.channel_request.Tie as tie
@@ -16,7 +17,7 @@ use Rattle.arbiter.proofs.triggers.channel_request.Tie as tie
 -- the pending bit of record k
 record-pending : (cs : List Channel) (k : ℕ) → pendingBit cs (8 + k) ≡ IP (recordAt cs k)
 unfolding pendingBit
-record-pending cs k = let e : 8 + k - 8 ≡ k = omega arith in rw (le-ltb (8 + k) 8 (omega arith), e)
+record-pending cs k = rw (le-ltb (8 + k) 8 (omega arith), record-of cs k)
 
 returns : tie.Need-returns
 unfolding triggerOf fire triggerVerdict

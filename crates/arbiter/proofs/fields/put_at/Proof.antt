@@ -1,8 +1,8 @@
 -- The code is the definition.
 use borrow.Author.Needs.{needs}
 use Rattle.rules.specs.Image.{put}
-use Rattle.arbiter.proofs.places.put_at.Statement.{statement}
-use Rattle.arbiter.proofs.places.put_at.Tie as tie
+use Rattle.arbiter.proofs.fields.put_at.Statement.{statement}
+use Rattle.arbiter.proofs.fields.put_at.Tie as tie
 
 slice-read-put-bit : tie.Need-slice-read-put-bit
 slice-read-put-bit c = search needs

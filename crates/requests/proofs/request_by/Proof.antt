@@ -2,8 +2,8 @@
 use mathlib.Core.Path.{sym, _∙_}
 use Rattle.requests.specs.Ranks.{recordRequest}
 use borrow.Author.Needs.{needs}
-use Rattle.requests.proofs.record_request.Statement.{statement}
-use Rattle.requests.proofs.record_request.Tie as tie
+use Rattle.requests.proofs.request_by.Statement.{statement}
+use Rattle.requests.proofs.request_by.Tie as tie
 
 has-bit-requires : tie.Need-has-bit-requires
 has-bit-requires c κs = search needs
@@ -38,8 +38,8 @@ returns-4 : tie.Need-returns-4
 unfolding recordRequest
 returns-4 c = simp (sym (c .before .has-bit .ensures) ∙ c .if1 .left)
 
-pub record-request-spec : {M : Type 1} → statement M
-record-request-spec =
+pub request-by-spec : {M : Type 1} → statement M
+request-by-spec =
     tie.close
     (tie.spec
     has-bit-requires

@@ -3,8 +3,8 @@ use mathlib.Core.Path.{refl}
 use native.Mathlib.Omega.{arith}
 use borrow.Author.Needs.{needs}
 use Rattle.rules.specs.Image.{CICR, putCPL}
-use Rattle.arbiter.proofs.places.put_cpl.Statement.{statement}
-use Rattle.arbiter.proofs.places.put_cpl.Tie as tie
+use Rattle.arbiter.proofs.fields.put_cpl.Statement.{statement}
+use Rattle.arbiter.proofs.fields.put_cpl.Tie as tie
 
 slice-read-image : tie.Need-slice-read-image
 slice-read-image c = search needs
