@@ -10,10 +10,10 @@ use borrow.Author.Tests.{eqb-true, ltb-true, ltb-false}
 use mir.Val.{Val}
 use denote.Laws.{Is}
 use Rattle.rules.specs.declared.Channels.{Channels}
-use Rattle.rules.specs.Channels.{listOk, listOf}
 use Rattle.rules.specs.declared.Channel.{Channel}
 use Rattle.rules.specs.declared.Winner.the-variants as winner
 use Rattle.rules.specs.Image.{Image}
+use Rattle.rules.specs.Channels.{listOk, listOf}
 use Rattle.rules.specs.Sources.{sources, dmaEnabled}
 use Rattle.rules.specs.Requests.{wonBy, winnerOf}
 use Rattle.rules.proofs.Bools.{impossible, not-both, true-or}

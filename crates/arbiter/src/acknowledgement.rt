@@ -10,6 +10,7 @@ use rules::EIVR;
 use rules::EXTERNALS;
 use rules::IEN;
 use rules::IP;
+use rules::Winner;
 ghost use mathlib.Core.Path.{_≡_};
 ghost use mathlib.Core.Bool.{true};
 ghost use Prim.Native.Nat.{_<_};
@@ -18,7 +19,7 @@ ghost use Rattle.rules.specs.Image.{imageLength};
 ghost use Rattle.rules.specs.Channels.{listOk, listOf};
 ghost use Rattle.rules.specs.Outcomes.{change};
 ghost use Rattle.rules.specs.Sources.{sources};
-ghost use Rattle.rules.specs.Arbitration.{vectorOf, cleared, acknowledged};
+ghost use Rattle.rules.specs.Arbitration.{vectorOf, cleared, granted};
 
 // EIVR's upper half plus 2k, or IVR with bit 0 cleared.
 fn vector_of(image: &[u8], all: Channels, source: u8) -> u8
@@ -50,7 +51,7 @@ fn clear_pending(image: &mut [u8], all: Channels, source: u8)
 // An acknowledgement: in nested mode the levels first; then the source's bit and IEN are cleared.
 pub fn acknowledge(image: &mut [u8], all: Channels, source: u8, level: u8) -> Answer
     requires { ⌜ (length (now image) ≡ imageLength) × (listOk (listOf all) ≡ true) × (source < sources (listOf all)) × (level < 8) ⌝ }
-    ensures { λ a. ⌜ change a (now (image .exit)) ≡ change (Answer.Interrupt source level (vectorOf (now (image .entry)) (listOf all) source)) (acknowledged (now (image .entry)) (listOf all) source level) ⌝ }
+    ensures { λ a. ⌜ change a (now (image .exit)) ≡ granted (now (image .entry)) (listOf all) (Winner.Interrupt source level) ⌝ }
 {
     let vector = vector_of(image, all, source);
     nest(image, level);

@@ -20,10 +20,10 @@ use Rattle.rules.specs.declared.Winner.the-variants as winner
 use Rattle.rules.specs.Image.{Image, at, has, IEN, CPL, EIPR, EIMR, EIPLR}
 use Rattle.rules.specs.Channels.{recordAt, idcrByte}
 use Rattle.rules.specs.Sources.{sources, pendingBit, pending, unmasked, dmaEnabled, externalLevel, level}
-use Rattle.rules.proofs.PendingLaws.{record-of}
 use Rattle.rules.specs.Requests.{requestOf, eligible, isAt, wonBy, candidate, winnerOfKind, winnerAtLevel, winnerOf}
+use Rattle.rules.proofs.PendingLaws.{record-of}
 use Rattle.requests.specs.Ranks.{recordRequest, noRank, rankOf, positionLimit, NoneBelow, RanksBelow, found, foundOfKind, foundAtLevel, scanned}
-use Rattle.requests.proofs.FirstLaws.{first-none, first-same}
+use Rattle.requests.proofs.FirstLaws.{first-nobody, first-same}
 
 -- ---- requests, by the bytes that the code reads
 
@@ -119,4 +119,4 @@ module _ (ranks : List ℕ) (l kind p : ℕ) where
 pub found-below : (ranks : List ℕ) (least n l kind : ℕ) → n ≤ positionLimit → NoneBelow ranks least → 2 * l + kind < least → foundOfKind ranks n l kind ≡ winner.Nobody
 unfolding foundOfKind
 found-below ranks least n l kind h k b =
-    first-none (found ranks l kind) n (λ p g. found-none ranks l kind p (λ e. omega (arith, k p (omega arith))))
+    first-nobody (found ranks l kind) n (λ p g. found-none ranks l kind p (λ e. omega (arith, k p (omega arith))))

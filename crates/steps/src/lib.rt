@@ -6,24 +6,21 @@ use rules::Answer;
 use rules::Channels;
 use rules::IMAGE_LENGTH;
 use rules::Refusal;
+use rules::Step;
 use rules::Trigger;
 ghost use mathlib.Core.Path.{_≡_};
 ghost use Rattle.rules.specs.Channels.{listOf};
-ghost use Rattle.rules.specs.Outcomes.{change};
-ghost use Rattle.rules.specs.Registers.{writeOf, resetOf};
-ghost use Rattle.rules.specs.Triggers.{triggerOf};
-ghost use Rattle.rules.specs.Arbitration.{arbitration};
+ghost use lib.ListN.{length};
+ghost use Rattle.rules.specs.Image.{imageLength, state};
+ghost use Rattle.rules.specs.Outcomes.{outcome};
+ghost use Rattle.rules.specs.Registers.{resetOf};
 ghost use Rattle.rules.specs.Return.{returnOf};
-ghost use Rattle.steps.specs.Listed.{listed};
+ghost use Rattle.rules.specs.Steps.{stepOf};
 
 // The functions of the model take a list within the rules; any other is refused with 2.
-fn answer_of_write(
-    image: &mut [u8; IMAGE_LENGTH],
-    all: Channels,
-    register: u32,
-    value: u8,
-) -> Answer
-    ensures { λ a. ⌜ change a (now (image .exit)) ≡ listed (listOf all) (now (image .entry)) (writeOf (now (image .entry)) (listOf all) register value) ⌝ }
+fn answer_of_write(image: &mut [u8], all: Channels, register: u32, value: u8) -> Answer
+    requires { ⌜ length (now image) ≡ imageLength ⌝ }
+    ensures { λ a. ⌜ outcome a (state (now (image .exit))) ≡ stepOf (state (now (image .entry))) (listOf all) (Step.Write register value) ⌝ }
 {
     if channels::list_ok(all) {
         return registers::write(image, all, register, value);
@@ -31,8 +28,9 @@ fn answer_of_write(
     Answer::Refused(Refusal::List)
 }
 
-fn answer_of_trigger(image: &mut [u8; IMAGE_LENGTH], all: Channels, event: Trigger) -> Answer
-    ensures { λ a. ⌜ change a (now (image .exit)) ≡ listed (listOf all) (now (image .entry)) (triggerOf (now (image .entry)) (listOf all) event) ⌝ }
+fn answer_of_trigger(image: &mut [u8], all: Channels, event: Trigger) -> Answer
+    requires { ⌜ length (now image) ≡ imageLength ⌝ }
+    ensures { λ a. ⌜ outcome a (state (now (image .exit))) ≡ stepOf (state (now (image .entry))) (listOf all) (Step.Trigger event) ⌝ }
 {
     if channels::list_ok(all) {
         return arbiter::trigger(image, all, event);
@@ -40,8 +38,9 @@ fn answer_of_trigger(image: &mut [u8; IMAGE_LENGTH], all: Channels, event: Trigg
     Answer::Refused(Refusal::List)
 }
 
-fn answer_of_arbitration(image: &mut [u8; IMAGE_LENGTH], all: Channels) -> Answer
-    ensures { λ a. ⌜ change a (now (image .exit)) ≡ listed (listOf all) (now (image .entry)) (arbitration (now (image .entry)) (listOf all)) ⌝ }
+fn answer_of_arbitration(image: &mut [u8], all: Channels) -> Answer
+    requires { ⌜ length (now image) ≡ imageLength ⌝ }
+    ensures { λ a. ⌜ outcome a (state (now (image .exit))) ≡ stepOf (state (now (image .entry))) (listOf all) Step.Arbitrate ⌝ }
 {
     if channels::list_ok(all) {
         return arbiter::arbitrate(image, all);
@@ -56,7 +55,7 @@ pub fn write(
     register: u32,
     value: u8,
 ) -> [u8; IMAGE_LENGTH]
-    ensures { λ m. ⌜ m ≡ listed (listOf all) image (writeOf image (listOf all) register value) .image ⌝ }
+    ensures { λ m. ⌜ m ≡ stepOf (state image) (listOf all) (Step.Write register value) .state .image ⌝ }
 {
     text(b"write ");
     report::byte(value);
@@ -98,7 +97,7 @@ fn trigger_name(event: Trigger) {
 
 // A trigger.
 pub fn trigger(image: [u8; IMAGE_LENGTH], all: Channels, event: Trigger) -> [u8; IMAGE_LENGTH]
-    ensures { λ m. ⌜ m ≡ listed (listOf all) image (triggerOf image (listOf all) event) .image ⌝ }
+    ensures { λ m. ⌜ m ≡ stepOf (state image) (listOf all) (Step.Trigger event) .state .image ⌝ }
 {
     trigger_name(event);
     let mut after = image;
@@ -109,7 +108,7 @@ pub fn trigger(image: [u8; IMAGE_LENGTH], all: Channels, event: Trigger) -> [u8;
 
 // An arbitration.
 pub fn arbitrate(image: [u8; IMAGE_LENGTH], all: Channels) -> [u8; IMAGE_LENGTH]
-    ensures { λ m. ⌜ m ≡ listed (listOf all) image (arbitration image (listOf all)) .image ⌝ }
+    ensures { λ m. ⌜ m ≡ stepOf (state image) (listOf all) Step.Arbitrate .state .image ⌝ }
 {
     text(b"arbitrate: ");
     let mut after = image;

@@ -2,8 +2,7 @@
 use borrow.Author.Needs.{needs}
 use borrow.Author.Tests.{lt-ltb, le-ltb, lt-leb, le-leb, eq-eqb, ne-eqb}
 use Rattle.rules.specs.Registers.{placeOf}
-use Rattle.rules.proofs.ListLaws.{listOf-count}
-use Rattle.rules.proofs.Twelve.{twelve}
+use Rattle.channels.proofs.ItemLaws.{count-short}
 use Rattle.registers.proofs.place_of.Statement.{statement}
 use Rattle.registers.proofs.place_of.Tie as tie
 
@@ -37,7 +36,7 @@ records-place-requires : tie.Need-records-place-requires
 records-place-requires c κs =
     let d = c .before .before .before in
     let s = d .before .before in
-    (listOf-count (s .args .all) (twelve (s .args .all) _ (s .good .1 .0)) (s .pre .1), d .if1 .left)
+    (count-short _ (s .good .1 .0) (s .pre .1), d .if1 .left)
 
 returns-4 : tie.Need-returns-4
 unfolding placeOf

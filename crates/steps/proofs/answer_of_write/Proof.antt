@@ -1,6 +1,11 @@
--- The list is within the rules where `list_ok` says so.
-use mathlib.Core.Path.{sym, _∙_}
+-- The list is within the rules where `list_ok` says so; then the step is the model's, and else refusal 2.
+use mathlib.Core.Path.{sym, ap, _∙_}
 use borrow.Author.Needs.{needs}
+use Rattle.rules.specs.declared.Step.the-variants as step
+use Rattle.rules.specs.Image.{state}
+use Rattle.rules.specs.Outcomes.{changed}
+use Rattle.rules.specs.Steps.{actOf}
+use Rattle.rules.proofs.Refusals.{list-second, accepted-acts}
 use Rattle.steps.proofs.answer_of_write.Statement.{statement}
 use Rattle.steps.proofs.answer_of_write.Tie as tie
 
@@ -10,11 +15,22 @@ list-ok-requires c κs = search needs
 write-requires : tie.Need-write-requires
 write-requires c κs = (search needs, sym (c .before .before .list-ok .ensures) ∙ c .before .if1 .taken)
 
+same-length : tie.Need-same-length
+same-length c = search needs
+
 returns : tie.Need-returns
-returns c = simp (sym (c .before .before .before .list-ok .ensures) ∙ c .before .before .if1 .taken, c .write .ensures)
+unfolding actOf
+returns c =
+    let d = c .before .before .before .before in
+    let s = d .before .before .before in
+    let m = state (s .args .image .now) in
+    ap (changed m) (c .before .before .write .ensures) ∙ sym (accepted-acts m _ (step.Write _ _) (s .pre) (sym (d .before .list-ok .ensures) ∙ d .if1 .taken))
 
 returns-2 : tie.Need-returns-2
-returns-2 c = simp (sym (c .before .list-ok .ensures) ∙ c .if1 .left)
+returns-2 c =
+    let s = c .before .before .before in
+    sym (list-second (state (s .args .image .now)) _ (step.Write _ _) (s .pre) (sym (c .before .list-ok .ensures) ∙ c .if1 .left))
 
 pub answer-of-write-spec : {M : Type 1} → statement M
-answer-of-write-spec = tie.close (tie.spec list-ok-requires write-requires returns returns-2)
+answer-of-write-spec =
+    tie.close (tie.spec list-ok-requires write-requires same-length returns returns-2)

@@ -1,7 +1,7 @@
 -- The image after it is the step's.
 use mathlib.Core.Path.{ap}
 use borrow.Author.Needs.{needs}
-use Rattle.rules.specs.Outcomes.{Change}
+use Rattle.rules.specs.Outcomes.{Outcome}
 use Rattle.steps.proofs.write.Statement.{statement}
 use Rattle.steps.proofs.write.Tie as tie
 
@@ -29,6 +29,9 @@ slice-aggregate-text-3 c = search needs
 text-requires-3 : tie.Need-text-requires-3
 text-requires-3 c κs = search needs
 
+slice-aggregate-answer-of-write : tie.Need-slice-aggregate-answer-of-write
+slice-aggregate-answer-of-write c = search needs
+
 answer-of-write-requires : tie.Need-answer-of-write-requires
 answer-of-write-requires c κs = search needs
 
@@ -36,7 +39,7 @@ outcome-requires : tie.Need-outcome-requires
 outcome-requires c κs = search needs
 
 returns : tie.Need-returns
-returns c = ap (λ (x : Change). x .image) (c .before .answer-of-write .ensures)
+returns c = ap (λ (x : Outcome). x .state .image) (c .before .before .answer-of-write .ensures)
 
 pub write-spec : {M : Type 1} → statement M
 write-spec =
@@ -50,6 +53,7 @@ write-spec =
     number-requires
     slice-aggregate-text-3
     text-requires-3
+    slice-aggregate-answer-of-write
     answer-of-write-requires
     outcome-requires
     returns)

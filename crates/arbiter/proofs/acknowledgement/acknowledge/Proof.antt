@@ -1,6 +1,6 @@
 -- The vector is read first, and the three changes are those of `acknowledged` in its order.
 use borrow.Author.Needs.{needs}
-use Rattle.rules.specs.Arbitration.{acknowledged}
+use Rattle.rules.specs.Arbitration.{acknowledged, granted}
 use Rattle.arbiter.proofs.acknowledgement.acknowledge.Statement.{statement}
 use Rattle.arbiter.proofs.acknowledgement.acknowledge.Tie as tie
 
@@ -20,7 +20,7 @@ same-length : tie.Need-same-length
 same-length c = search needs
 
 returns : tie.Need-returns
-unfolding acknowledged
+unfolding granted acknowledged
 returns c =
     let p = c .before .before .before .before .before .before in
     let n = p .before .before .before .before in
