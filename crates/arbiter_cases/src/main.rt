@@ -15,13 +15,16 @@ use samples::with;
 use samples::with_pair;
 use samples::with_record;
 use steps::arbitrate;
-use steps::return_from_interrupt;
 use steps::trigger;
 
 // ---- steps: each answers the image after it
 
 fn falling(image: [u8; IMAGE_LENGTH], pin: u32) -> [u8; IMAGE_LENGTH] {
     trigger(image, none(), Trigger::Pin { pin, direction: 0 })
+}
+
+fn returned(image: [u8; IMAGE_LENGTH]) -> [u8; IMAGE_LENGTH] {
+    steps::return_from_interrupt(image, none())
 }
 
 // ---- lists: the `usual` record of page p has its IDCR at byte 240 + 16p, then IVR, DCPR, DAPR and data
@@ -40,7 +43,7 @@ fn inward() -> Channels {
 fn c01() {
     let m = filled(0);
     report::start(b"C01", m);
-    steps::reset(m);
+    steps::reset(m, none());
 }
 
 fn c02() {
@@ -52,13 +55,13 @@ fn c02() {
 fn c03_c04() {
     let m = interrupts(0x97, 0x00, 0x03, 0x03, 0xFC);
     report::start(b"C03, C04", m);
-    arbitrate(return_from_interrupt(arbitrate(m, none())), none());
+    arbitrate(returned(arbitrate(m, none())), none());
 }
 
 fn c05() {
     let m = interrupts(0x9C, 0x00, 0x01, 0x01, 0xFC);
     report::start(b"C05", m);
-    return_from_interrupt(arbitrate(m, none()));
+    returned(arbitrate(m, none()));
 }
 
 // One arbitration without records.
@@ -78,7 +81,7 @@ fn c06_c07() {
 fn c08() {
     let m = interrupts(0xC7, 0x80, 0x00, 0x00, 0x00);
     report::start(b"C08", m);
-    return_from_interrupt(arbitrate(arbitrate(m, none()), none()));
+    returned(arbitrate(arbitrate(m, none()), none()));
 }
 
 // The image of C09 to C11: one record on page 9, DCPR 11h, data 5Ah.
@@ -149,19 +152,19 @@ fn mark_before_refusal() {
     );
     let n = with(m, MARK, 0x02);
     report::start(b"mark 2, memory DMA", n);
-    arbitrate(return_from_interrupt(arbitrate(n, inward())), inward());
+    arbitrate(returned(arbitrate(n, inward())), inward());
 }
 
 fn mark_before_top_level() {
     let m = with(interrupts(0xF7, 0x80, 0xFF, 0xFF, 0x00), MARK, 0x01);
     report::start(b"mark 1, TLIP and interrupts", m);
-    arbitrate(return_from_interrupt(arbitrate(m, none())), none());
+    arbitrate(returned(arbitrate(m, none())), none());
 }
 
 fn mark_in_nested_mode() {
     let m = with(interrupts(0x8B, 0x7F, 0x00, 0x00, 0x00), MARK, 0xFF);
     report::start(b"mark FFh, nested mode", m);
-    return_from_interrupt(return_from_interrupt(m));
+    returned(returned(m));
 }
 
 // ---- the top level
@@ -198,7 +201,7 @@ fn top_level_before_refusal() {
         0x5A,
     );
     report::start(b"top level, memory DMA", m);
-    arbitrate(return_from_interrupt(arbitrate(m, inward())), inward());
+    arbitrate(returned(arbitrate(m, inward())), inward());
 }
 
 // ---- interrupts of external channels

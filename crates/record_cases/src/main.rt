@@ -13,7 +13,6 @@ use samples::with;
 use samples::with_pair;
 use samples::with_record;
 use steps::arbitrate;
-use steps::return_from_interrupt;
 
 // ---- lists: the `usual` record of page p has its IDCR at byte 240 + 16p, then IVR, DCPR, DAPR and data
 
@@ -25,6 +24,10 @@ fn single() -> Channels {
 // Pages 11, 9 and 10, the last from register file to peripheral.
 fn mixed() -> Channels {
     three(usual(11), usual(9), reversed(usual(10)))
+}
+
+fn returned(image: [u8; IMAGE_LENGTH]) -> [u8; IMAGE_LENGTH] {
+    steps::return_from_interrupt(image, mixed())
 }
 
 // Two records on page 9 with registers in another order, the second from register file to peripheral.
@@ -196,8 +199,8 @@ fn order() {
 fn one_after_another() {
     let m = records(0x97, 0x05, 0xFC, 0x2B, 0x2B, 0x28);
     report::start(b"one after another", m);
-    let n = return_from_interrupt(arbitrate(return_from_interrupt(arbitrate(m, mixed())), mixed()));
-    let o = return_from_interrupt(arbitrate(return_from_interrupt(arbitrate(n, mixed())), mixed()));
+    let n = returned(arbitrate(returned(arbitrate(m, mixed())), mixed()));
+    let o = returned(arbitrate(returned(arbitrate(n, mixed())), mixed()));
     arbitrate(o, mixed());
 }
 

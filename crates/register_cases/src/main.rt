@@ -1,14 +1,12 @@
 // Runs cases of read, write and reset, and prints a line for each: what it answers and which bytes it changes. The expected output, beside this program,
 // is written from document 01.
 use report::text;
-use rules::Answer;
 use rules::Channels;
 use rules::EIPR;
 use rules::IMAGE_LENGTH;
 use rules::MARK;
 use rules::NICR;
 use rules::PPR;
-use rules::Refusal;
 use samples::channel;
 use samples::counted;
 use samples::filled;
@@ -41,22 +39,11 @@ fn records() -> Channels {
 
 // ---- read: PPR, the register and the answer. Byte i of the image is i mod 251, but for PPR.
 
-// With refusal 2 for a list outside the rules: no case here has one.
-fn answer_of_read(image: [u8; IMAGE_LENGTH], all: Channels, register: u32) -> Answer {
-    if channels::list_ok(all) {
-        return registers::read(&image, all, register);
-    }
-    Answer::Refused(Refusal::List)
-}
-
 fn show_read(all: Channels, ppr: u8, register: u32) {
     text(b"PPR ");
     report::byte(ppr);
-    text(b", read R");
-    report::number(register as u64);
-    text(b": ");
-    report::answer(answer_of_read(with(counted(), PPR, ppr), all, register));
-    text(b"\n");
+    text(b", ");
+    steps::read(with(counted(), PPR, ppr), all, register);
 }
 
 fn read(ppr: u8, register: u32) {
@@ -228,7 +215,7 @@ fn write_unmodelled() {
 fn show_reset(start: &[u8], image: [u8; IMAGE_LENGTH]) {
     text(start);
     text(b", ");
-    steps::reset(image);
+    steps::reset(image, repeated(usual(9), 0));
 }
 
 fn reset_once() -> [u8; IMAGE_LENGTH] {

@@ -2,8 +2,10 @@
 use rules::Answer;
 use rules::Effect;
 use rules::IMAGE_LENGTH;
+use rules::Ran;
 use rules::Refusal;
 use rules::Verdict;
+use rules::Waited;
 ghost use mathlib.Core.Path.{_≡_};
 ghost use mathlib.Core.Bool.{not};
 ghost use lib.Dec.{eqb};
@@ -38,7 +40,7 @@ pub fn byte(b: u8) {
 }
 
 // Document 01's number of a refusal.
-fn refusal_number(r: Refusal) -> u64
+pub fn refusal_number(r: Refusal) -> u64
     ensures { λ n. ⌜ n ≡ refusalNumber r ⌝ }
 {
     match r {
@@ -113,6 +115,55 @@ pub fn answer(a: Answer) {
         Answer::Returned => text(b"returned"),
         Answer::Reset => text(b"reset"),
         Answer::Refused(r) => refusal(r),
+    }
+}
+
+// A refusal and its place in a run.
+fn refusal_at(r: Refusal, index: usize) {
+    refusal(r);
+    text(b" at step ");
+    number(index as u64);
+}
+
+// What a run answers.
+pub fn ran(r: Ran) {
+    match r {
+        Ran::Refused(e) => refusal(e),
+        Ran::RefusedAt { refusal: e, index } => refusal_at(e, index),
+        Ran::Done { steps, last } => {
+            text(b"done ");
+            number(steps as u64);
+            text(b", last ");
+            answer(last);
+        }
+    }
+}
+
+fn counted(arbitrations: usize) {
+    text(b", arbitrations ");
+    number(arbitrations as u64);
+}
+
+// What a wait report answers.
+pub fn waited(w: Waited) {
+    match w {
+        Waited::Refused(e) => refusal(e),
+        Waited::RefusedAt {
+            refusal: e,
+            index,
+            arbitrations,
+        } => {
+            refusal_at(e, index);
+            counted(arbitrations);
+        }
+        Waited::Ended { arbitrations } => {
+            text(b"ended");
+            counted(arbitrations);
+        }
+        Waited::Acknowledged { arbitrations } => {
+            text(b"acknowledged");
+            counted(arbitrations);
+        }
     }
 }
 

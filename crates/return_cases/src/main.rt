@@ -6,11 +6,14 @@ use samples::interrupts;
 use samples::repeated;
 use samples::usual;
 use steps::arbitrate;
-use steps::return_from_interrupt;
 use steps::write;
 
 fn none() -> Channels {
     repeated(usual(9), 0)
+}
+
+fn returned(image: [u8; IMAGE_LENGTH]) -> [u8; IMAGE_LENGTH] {
+    steps::return_from_interrupt(image, none())
 }
 
 // ---- nested mode
@@ -38,7 +41,7 @@ fn nested_twice() {
     let m = interrupts(0x9F, 0x00, 0x41, 0x41, 0x3C);
     report::start(b"nested twice", m);
     let n = write(arbitrate(m, none()), none(), 230, 0x9E);
-    return_from_interrupt(return_from_interrupt(return_from_interrupt(arbitrate(n, none()))));
+    returned(returned(returned(arbitrate(n, none()))));
 }
 
 // A source becomes pending, the handler sets IEN, and the source interrupts it.
@@ -54,7 +57,7 @@ fn nested_three_times() {
     let m = interrupts(0x9F, 0x00, 0x20, 0xFF, 0xE4);
     report::start(b"nested three times", m);
     let n = interrupted(interrupted(arbitrate(m, none()), 0x04, 0x9D), 0x01, 0x9A);
-    return_from_interrupt(return_from_interrupt(return_from_interrupt(n)));
+    returned(returned(returned(n)));
 }
 
 // ---- returns
@@ -62,7 +65,7 @@ fn nested_three_times() {
 fn returns(label: &[u8], cicr: u8, nicr: u8) {
     let m = interrupts(cicr, nicr, 0x00, 0x00, 0x00);
     report::start(label, m);
-    return_from_interrupt(m);
+    returned(m);
 }
 
 fn single_returns() {
@@ -79,14 +82,14 @@ fn single_returns() {
 fn popped_to_the_end() {
     let m = interrupts(0x88, 0xB4, 0x00, 0x00, 0x00);
     report::start(b"NICR B4h", m);
-    return_from_interrupt(return_from_interrupt(return_from_interrupt(return_from_interrupt(m))));
+    returned(returned(returned(returned(m))));
 }
 
 // Acknowledged in nested mode, then IAM is cleared.
 fn mode_at_return() {
     let m = interrupts(0x9C, 0x00, 0x01, 0x01, 0xFC);
     report::start(b"IAM cleared before the return", m);
-    return_from_interrupt(write(arbitrate(m, none()), none(), 230, 0x80));
+    returned(write(arbitrate(m, none()), none(), 230, 0x80));
 }
 
 fn main() {

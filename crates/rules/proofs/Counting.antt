@@ -15,6 +15,11 @@ use Rattle.rules.specs.Runs.{oneIf}
 use Rattle.rules.specs.Waiting.{countBelow, pendingOf}
 use Rattle.rules.proofs.Bools.{both}
 
+-- a number counts once at most
+pub one-le : (t : Bool) → oneIf t ≤ 1
+one-le true = omega arith
+one-le false = omega arith
+
 -- the tests agree everywhere
 pub count-same : (p q : ℕ → Bool) (n : ℕ) → ((k : ℕ) → k < n → q k ≡ p k) → countBelow n q ≡ countBelow n p
 unfolding countBelow

@@ -18,6 +18,7 @@ use Rattle.rules.specs.Sources.{pending}
 use Rattle.rules.specs.Runs.{Event, history, stateAfter, eventRefused, oneIf, stepsDone, runEvents, lastAnswer, runReport, runOf, acknowledges, eventAcknowledges, acknowledgedIn, arbitrationsIn, isArbitration, anyEvent, counted, until, waitEvents, waitedIf, waitReport, waitOf}
 use Rattle.rules.specs.Waiting.{H, E, Start, Calls, InTime, Kept, RunDemand3, WaitWithin, WaitDemand3}
 use Rattle.rules.proofs.Bools.{not-both}
+use Rattle.rules.proofs.Counting.{one-le}
 use Rattle.rules.proofs.Refusals.{lent-accepted}
 use Rattle.rules.proofs.Histories.{run-prefix, wait-prefix}
 use Rattle.rules.proofs.AcknowledgedBy.{acknowledges-accepted}
@@ -37,7 +38,7 @@ module _ (m : Image) (cs : List Channel) (s : ℕ) (a : Start m cs s) where
 -- ours is acknowledged among the steps that a run does, or pending in the image that it leaves
 pub run-demand3 : RunDemand3
 unfolding runOf runReport
-run-demand3 m cs s a xs c =
+run-demand3 m cs xs s a c =
     let p = run-prefix (state m) cs xs in
     let es = runEvents (state m) cs xs in (
       of-history m cs s a es (take (p .0) xs) (p .2) c,
@@ -51,10 +52,6 @@ module _ (s : ℕ) where
   abbrev Bounded : ℕ → List Event → ℕ → Type 0
   Bounded b es c =
       c ≤ b → ((n : ℕ) → b < c + arbitrationsIn (take n es) → acknowledgedIn s (take n es) ≡ true) → c + arbitrationsIn es ≤ b + 1
-
-  one-le : (t : Bool) → oneIf t ≤ 1
-  one-le true = omega arith
-  one-le false = omega arith
 
   -- so it is of events that end with the acknowledgement
   until-bounded : (b : ℕ) (es : List Event) (c : ℕ) → Bounded b (until (eventAcknowledges s) es) c
@@ -87,7 +84,7 @@ module _ (s : ℕ) where
 -- a wait report answers within the bound, and with ours pending where it is not acknowledged
 pub wait-demand3 : WaitDemand3
 unfolding waitOf waitReport
-wait-demand3 m cs s a xs c =
+wait-demand3 m cs s xs a c =
     let es = waitEvents (state m) cs s xs in
     let bound = H m cs s + E m cs s es in
     let p = wait-prefix (state m) cs s xs in

@@ -47,7 +47,7 @@ module _ (s : State) (cs : List Channel) (source : ℕ) where
   source-next v h = rw (v, le-ltb source (sources cs) h)
 
   -- a wait report is accepted only with what is lent
-  accepted-lent : waitVerdict s cs source ≡ verdict.Accepted → lentVerdict s cs ≡ verdict.Accepted
+  pub accepted-lent : waitVerdict s cs source ≡ verdict.Accepted → lentVerdict s cs ≡ verdict.Accepted
   unfolding waitVerdict
   accepted-lent v = go (lentVerdict s cs) v
     where

@@ -125,15 +125,18 @@ Demand3 =
     → (n : ℕ) → InTime s (H m cs s + E m cs s (history (state m) cs xs)) (take n (history (state m) cs xs))
     × Kept m cs s (take n (history (state m) cs xs))
 
--- of a run, where the steps that it does are such a list: the same of the first n of these steps, for each n; and where ours is not
--- acknowledged among them all, it is pending in the image that the run leaves
-abbrev pub RunDemand3 : Type 0
-RunDemand3 =
-    (m : Image) (cs : List Channel) (s : ℕ) → Start m cs s
-    → (xs : List Step) → Calls (runEvents (state m) cs xs)
+-- of a run of xs that leaves `after`, where the steps that it does are such a list: the same of the first n of these steps, for each n; and where
+-- ours is not acknowledged among them all, it is pending in what the run leaves
+abbrev pub Demand3OfRun : Image → List Channel → List Step → Image → Type 0
+Demand3OfRun m cs xs after =
+    (s : ℕ) → Start m cs s → Calls (runEvents (state m) cs xs)
     → ((n : ℕ) → InTime s (H m cs s + E m cs s (runEvents (state m) cs xs)) (take n (runEvents (state m) cs xs))
     × Kept m cs s (take n (runEvents (state m) cs xs)))
-    × (acknowledgedIn s (runEvents (state m) cs xs) ≡ false → pending (runOf (state m) cs xs .state .image) cs s ≡ true)
+    × (acknowledgedIn s (runEvents (state m) cs xs) ≡ false → pending after cs s ≡ true)
+
+-- of every run
+abbrev pub RunDemand3 : Type 0
+RunDemand3 = (m : Image) (cs : List Channel) (xs : List Step) → Demand3OfRun m cs xs (runOf (state m) cs xs .state .image)
 
 -- what a wait report may answer under a bound of H + E: acknowledged with at most one arbitration more; ended or refused with at most so
 -- many, and ours pending in the image that it leaves; never refused before a step
@@ -143,10 +146,14 @@ WaitWithin bound (waited.RefusedAt r i k) still = (k ≤ bound) × (still ≡ tr
 WaitWithin bound (waited.Ended k) still = (k ≤ bound) × (still ≡ true)
 WaitWithin bound (waited.Acknowledged k) still = k ≤ bound + 1
 
--- of a wait report for ours, where the steps that it does are such a list
+-- of a wait report for s over xs that answers w and leaves `after`, where the steps that it does are such a list
+abbrev pub Demand3OfWait : Image → List Channel → ℕ → List Step → Waited → Image → Type 0
+Demand3OfWait m cs s xs w after =
+    Start m cs s → Calls (waitEvents (state m) cs s xs)
+    → WaitWithin (H m cs s + E m cs s (waitEvents (state m) cs s xs)) w (pending after cs s)
+
+-- of every wait report
 abbrev pub WaitDemand3 : Type 0
 WaitDemand3 =
-    (m : Image) (cs : List Channel) (s : ℕ) → Start m cs s
-    → (xs : List Step) → Calls (waitEvents (state m) cs s xs)
-    → WaitWithin (H m cs s + E m cs s (waitEvents (state m) cs s xs)) (waitOf (state m) cs s xs .answer)
-    (pending (waitOf (state m) cs s xs .state .image) cs s)
+    (m : Image) (cs : List Channel) (s : ℕ) (xs : List Step)
+    → Demand3OfWait m cs s xs (waitOf (state m) cs s xs .answer) (waitOf (state m) cs s xs .state .image)

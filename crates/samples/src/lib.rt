@@ -1,4 +1,4 @@
-// Images and channel lists for the programs that run cases to start from.
+// Images, channel lists and steps for the programs that run cases to start from.
 use rules::CICR;
 use rules::Channel;
 use rules::Channels;
@@ -10,9 +10,10 @@ use rules::IMAGE_LENGTH;
 use rules::MOST_RECORDS;
 use rules::NICR;
 ghost use mathlib.Core.Path.{_≡_};
-ghost use Prim.Native.Nat.{_+_, _*_, _<_};
+ghost use Prim.Native.Nat.{_+_, _*_, _^_, _<_};
 ghost use lib.ListN.{set, replicate};
 ghost use Rattle.rules.specs.Image.{imageLength};
+ghost use Rattle.rules.specs.Steps.{stepBy, decodeOf};
 ghost use Rattle.samples.specs.Samples.{Counted, interruptsOf, withRecord, channelOf, usualOf, reversedOf, listBy, sameItems, elevenAnd};
 
 // An image of one byte throughout.
@@ -171,4 +172,91 @@ pub fn twelve(last: Channel, count: usize) -> Channels
         ],
         count,
     }
+}
+
+// ---- steps as words
+
+// The step of a kind, a trigger kind, a first field under 2^24 and a second.
+pub fn step_word(kind: u16, trigger: u16, first: u32, second: u8) -> u64
+    requires { ⌜ first < 2 ^ 24 ⌝ }
+    ensures { λ w. ⌜ decodeOf w ≡ stepBy kind trigger first second ⌝ }
+{
+    (kind as u64) * 0x1_0000_0000_0000
+        + (trigger as u64) * 0x1_0000_0000
+        + (first as u64) * 0x100
+        + (second as u64)
+}
+
+// A read.
+pub fn read_word(register: u32) -> u64
+    requires { ⌜ register < 2 ^ 24 ⌝ }
+    ensures { λ w. ⌜ decodeOf w ≡ stepBy 0 0 register 0 ⌝ }
+{
+    step_word(0, 0, register, 0)
+}
+
+// A write.
+pub fn write_word(register: u32, value: u8) -> u64
+    requires { ⌜ register < 2 ^ 24 ⌝ }
+    ensures { λ w. ⌜ decodeOf w ≡ stepBy 1 0 register value ⌝ }
+{
+    step_word(1, 0, register, value)
+}
+
+// A pin edge.
+pub fn pin_word(pin: u32, direction: u8) -> u64
+    requires { ⌜ pin < 2 ^ 24 ⌝ }
+    ensures { λ w. ⌜ decodeOf w ≡ stepBy 2 0 pin direction ⌝ }
+{
+    step_word(2, 0, pin, direction)
+}
+
+// The watchdog's end of count.
+pub fn watchdog_word() -> u64
+    ensures { λ w. ⌜ decodeOf w ≡ stepBy 2 1 0 0 ⌝ }
+{
+    step_word(2, 1, 0, 0)
+}
+
+// An NMI edge.
+pub fn nmi_word(direction: u8) -> u64
+    ensures { λ w. ⌜ decodeOf w ≡ stepBy 2 2 0 direction ⌝ }
+{
+    step_word(2, 2, 0, direction)
+}
+
+// A channel request.
+pub fn request_word(position: u32) -> u64
+    requires { ⌜ position < 2 ^ 24 ⌝ }
+    ensures { λ w. ⌜ decodeOf w ≡ stepBy 2 3 position 0 ⌝ }
+{
+    step_word(2, 3, position, 0)
+}
+
+// An arbitration.
+pub fn arbitrate_word() -> u64
+    ensures { λ w. ⌜ decodeOf w ≡ stepBy 3 0 0 0 ⌝ }
+{
+    step_word(3, 0, 0, 0)
+}
+
+// A return.
+pub fn return_word() -> u64
+    ensures { λ w. ⌜ decodeOf w ≡ stepBy 4 0 0 0 ⌝ }
+{
+    step_word(4, 0, 0, 0)
+}
+
+// A reset.
+pub fn reset_word() -> u64
+    ensures { λ w. ⌜ decodeOf w ≡ stepBy 5 0 0 0 ⌝ }
+{
+    step_word(5, 0, 0, 0)
+}
+
+// A step of unknown kind.
+pub fn unknown_word() -> u64
+    ensures { λ w. ⌜ decodeOf w ≡ stepBy 6 0 0 0 ⌝ }
+{
+    step_word(6, 0, 0, 0)
 }

@@ -1,51 +1,30 @@
-// One step on an image for the programs that run cases: it prints the step, what it answers and which bytes it changes,
-// and answers the image after it.
+// One step, a run or a wait report on an image for the programs that run cases: it prints what it answers and which bytes it changes, and answers the image after it.
+// A single step is printed too, but not the words of a run. A read changes nothing and answers what it read.
 use report::number;
 use report::text;
 use rules::Answer;
 use rules::Channels;
 use rules::IMAGE_LENGTH;
-use rules::Refusal;
 use rules::Step;
 use rules::Trigger;
 ghost use mathlib.Core.Path.{_≡_};
 ghost use Rattle.rules.specs.Channels.{listOf};
-ghost use lib.ListN.{length};
-ghost use Rattle.rules.specs.Image.{imageLength, state};
-ghost use Rattle.rules.specs.Outcomes.{outcome};
-ghost use Rattle.rules.specs.Registers.{resetOf};
-ghost use Rattle.rules.specs.Return.{returnOf};
-ghost use Rattle.rules.specs.Steps.{stepOf};
+ghost use Rattle.rules.specs.Image.{state};
+ghost use Rattle.rules.specs.Steps.{stepOf, decodeOf, stepsOf};
+ghost use Rattle.rules.specs.Runs.{runOf, waitOf};
+ghost use Rattle.rules.specs.Promises.{Reads};
 
-// The functions of the model take a list within the rules; any other is refused with 2.
-fn answer_of_write(image: &mut [u8], all: Channels, register: u32, value: u8) -> Answer
-    requires { ⌜ length (now image) ≡ imageLength ⌝ }
-    ensures { λ a. ⌜ outcome a (state (now (image .exit))) ≡ stepOf (state (now (image .entry))) (listOf all) (Step.Write register value) ⌝ }
+// A read: the image is shared.
+pub fn read(image: [u8; IMAGE_LENGTH], all: Channels, register: u32) -> Answer
+    ensures { λ a. ⌜ Reads image (listOf all) register a ⌝ }
 {
-    if channels::list_ok(all) {
-        return registers::write(image, all, register, value);
-    }
-    Answer::Refused(Refusal::List)
-}
-
-fn answer_of_trigger(image: &mut [u8], all: Channels, event: Trigger) -> Answer
-    requires { ⌜ length (now image) ≡ imageLength ⌝ }
-    ensures { λ a. ⌜ outcome a (state (now (image .exit))) ≡ stepOf (state (now (image .entry))) (listOf all) (Step.Trigger event) ⌝ }
-{
-    if channels::list_ok(all) {
-        return arbiter::trigger(image, all, event);
-    }
-    Answer::Refused(Refusal::List)
-}
-
-fn answer_of_arbitration(image: &mut [u8], all: Channels) -> Answer
-    requires { ⌜ length (now image) ≡ imageLength ⌝ }
-    ensures { λ a. ⌜ outcome a (state (now (image .exit))) ≡ stepOf (state (now (image .entry))) (listOf all) Step.Arbitrate ⌝ }
-{
-    if channels::list_ok(all) {
-        return arbiter::arbitrate(image, all);
-    }
-    Answer::Refused(Refusal::List)
+    text(b"read R");
+    number(register as u64);
+    text(b": ");
+    let a = machine::read(&image, all, register);
+    report::answer(a);
+    text(b"\n");
+    a
 }
 
 // A write.
@@ -63,7 +42,7 @@ pub fn write(
     number(register as u64);
     text(b": ");
     let mut after = image;
-    let a = answer_of_write(&mut after, all, register, value);
+    let a = machine::write(&mut after, all, register, value);
     report::outcome(a, image, after);
     after
 }
@@ -101,7 +80,7 @@ pub fn trigger(image: [u8; IMAGE_LENGTH], all: Channels, event: Trigger) -> [u8;
 {
     trigger_name(event);
     let mut after = image;
-    let a = answer_of_trigger(&mut after, all, event);
+    let a = machine::trigger(&mut after, all, event);
     report::outcome(a, image, after);
     after
 }
@@ -112,29 +91,73 @@ pub fn arbitrate(image: [u8; IMAGE_LENGTH], all: Channels) -> [u8; IMAGE_LENGTH]
 {
     text(b"arbitrate: ");
     let mut after = image;
-    let a = answer_of_arbitration(&mut after, all);
+    let a = machine::arbitrate(&mut after, all);
     report::outcome(a, image, after);
     after
 }
 
 // A return.
-pub fn return_from_interrupt(image: [u8; IMAGE_LENGTH]) -> [u8; IMAGE_LENGTH]
-    ensures { λ m. ⌜ m ≡ returnOf image .image ⌝ }
+pub fn return_from_interrupt(image: [u8; IMAGE_LENGTH], all: Channels) -> [u8; IMAGE_LENGTH]
+    ensures { λ m. ⌜ m ≡ stepOf (state image) (listOf all) Step.Return .state .image ⌝ }
 {
     text(b"return: ");
     let mut after = image;
-    let a = arbiter::return_from_interrupt(&mut after);
+    let a = machine::return_from_interrupt(&mut after, all);
     report::outcome(a, image, after);
     after
 }
 
 // A reset.
-pub fn reset(image: [u8; IMAGE_LENGTH]) -> [u8; IMAGE_LENGTH]
-    ensures { λ m. ⌜ m ≡ resetOf image .image ⌝ }
+pub fn reset(image: [u8; IMAGE_LENGTH], all: Channels) -> [u8; IMAGE_LENGTH]
+    ensures { λ m. ⌜ m ≡ stepOf (state image) (listOf all) Step.Reset .state .image ⌝ }
 {
     text(b"reset: ");
     let mut after = image;
-    let a = registers::reset(&mut after);
+    let a = machine::reset(&mut after, all);
     report::outcome(a, image, after);
+    after
+}
+
+// A step given as a word.
+pub fn perform(image: [u8; IMAGE_LENGTH], all: Channels, word: u64) -> [u8; IMAGE_LENGTH]
+    ensures { λ m. ⌜ m ≡ stepOf (state image) (listOf all) (decodeOf word) .state .image ⌝ }
+{
+    text(b"word: ");
+    let mut after = image;
+    let a = machine::perform(&mut after, all, word);
+    report::outcome(a, image, after);
+    after
+}
+
+// A run of words.
+pub fn run(image: [u8; IMAGE_LENGTH], all: Channels, words: &[u64]) -> [u8; IMAGE_LENGTH]
+    ensures { λ m. ⌜ m ≡ runOf (state image) (listOf all) (stepsOf (now (words .entry))) .state .image ⌝ }
+{
+    text(b"run: ");
+    let mut after = image;
+    let r = machine::run(&mut after, all, words);
+    report::ran(r);
+    report::changes(image, after);
+    text(b"\n");
+    after
+}
+
+// A wait report for a source over words.
+pub fn wait(
+    image: [u8; IMAGE_LENGTH],
+    all: Channels,
+    source: u32,
+    words: &[u64],
+) -> [u8; IMAGE_LENGTH]
+    ensures { λ m. ⌜ m ≡ waitOf (state image) (listOf all) source (stepsOf (now (words .entry))) .state .image ⌝ }
+{
+    text(b"wait for source ");
+    number(source as u64);
+    text(b": ");
+    let mut after = image;
+    let w = machine::wait(&mut after, all, source, words);
+    report::waited(w);
+    report::changes(image, after);
+    text(b"\n");
     after
 }

@@ -1,0 +1,136 @@
+// The model with the channel list by value: the refusals of what is lent, the six steps, a step given as a word, runs and the wait report.
+// Any image, any list and any step gets an answer.
+mod answers;
+mod runs;
+mod words;
+
+use rules::Answer;
+use rules::Channels;
+use rules::EXTERNALS;
+use rules::IMAGE_LENGTH;
+use rules::Ran;
+use rules::Refusal;
+use rules::Step;
+use rules::Trigger;
+use rules::Verdict;
+use rules::Waited;
+use runs::act;
+use runs::run_accepted;
+use runs::wait_accepted;
+use words::decode;
+ghost use mathlib.Core.Path.{_≡_};
+ghost use Rattle.rules.specs.Image.{state};
+ghost use Rattle.rules.specs.Channels.{listOf};
+ghost use Rattle.rules.specs.Steps.{lentVerdict};
+ghost use Rattle.rules.specs.Runs.{waitVerdict};
+ghost use Rattle.rules.specs.Promises.{Does, Reads, Writes, Triggers, Arbitrates, Returns, Resets, DoesWord, Runs, Waits};
+
+// What is lent: refused with 1, then with 2.
+fn lent_verdict(image: &[u8], all: Channels) -> Verdict
+    ensures { λ v. ⌜ v ≡ lentVerdict (state (now (image .entry))) (listOf all) ⌝ }
+{
+    if image.len() != IMAGE_LENGTH {
+        return Verdict::Refused(Refusal::Length);
+    }
+    if channels::list_ok(all) {
+        return Verdict::Accepted;
+    }
+    Verdict::Refused(Refusal::List)
+}
+
+// One step: refusals 1 and 2, then the step's own.
+fn one_step(image: &mut [u8], all: Channels, step: Step) -> Answer
+    ensures { λ a. ⌜ Does (now (image .entry)) (listOf all) step a (now (image .exit)) ⌝ }
+{
+    match lent_verdict(image, all) {
+        Verdict::Accepted => act(image, all, step),
+        Verdict::Refused(r) => Answer::Refused(r),
+    }
+}
+
+// Reads a register.
+pub fn read(image: &[u8], all: Channels, register: u32) -> Answer
+    ensures { λ a. ⌜ Reads (now (image .entry)) (listOf all) register a ⌝ }
+{
+    match lent_verdict(image, all) {
+        Verdict::Accepted => registers::read(image, all, register),
+        Verdict::Refused(r) => Answer::Refused(r),
+    }
+}
+
+// Writes a register.
+pub fn write(image: &mut [u8], all: Channels, register: u32, value: u8) -> Answer
+    ensures { λ a. ⌜ Writes (now (image .entry)) (listOf all) register value a (now (image .exit)) ⌝ }
+{
+    one_step(image, all, Step::Write(register, value))
+}
+
+// A trigger.
+pub fn trigger(image: &mut [u8], all: Channels, event: Trigger) -> Answer
+    ensures { λ a. ⌜ Triggers (now (image .entry)) (listOf all) event a (now (image .exit)) ⌝ }
+{
+    one_step(image, all, Step::Trigger(event))
+}
+
+// An arbitration.
+pub fn arbitrate(image: &mut [u8], all: Channels) -> Answer
+    ensures { λ a. ⌜ Arbitrates (now (image .entry)) (listOf all) a (now (image .exit)) ⌝ }
+{
+    one_step(image, all, Step::Arbitrate)
+}
+
+// The return.
+pub fn return_from_interrupt(image: &mut [u8], all: Channels) -> Answer
+    ensures { λ a. ⌜ Returns (now (image .entry)) (listOf all) a (now (image .exit)) ⌝ }
+{
+    one_step(image, all, Step::Return)
+}
+
+// A reset.
+pub fn reset(image: &mut [u8], all: Channels) -> Answer
+    ensures { λ a. ⌜ Resets (now (image .entry)) (listOf all) a (now (image .exit)) ⌝ }
+{
+    one_step(image, all, Step::Reset)
+}
+
+// The step that a word stands for.
+pub fn perform(image: &mut [u8], all: Channels, word: u64) -> Answer
+    ensures { λ a. ⌜ DoesWord (now (image .entry)) (listOf all) word a (now (image .exit)) ⌝ }
+{
+    one_step(image, all, decode(word))
+}
+
+// A run: what is lent is checked once, then the steps are done one after another up to the first refused.
+pub fn run(image: &mut [u8], all: Channels, words: &[u64]) -> Ran
+    ensures { λ r. ⌜ Runs (now (image .entry)) (listOf all) (now (words .entry)) r (now (image .exit)) ⌝ }
+{
+    match lent_verdict(image, all) {
+        Verdict::Accepted => run_accepted(image, all, words),
+        Verdict::Refused(r) => Ran::Refused(r),
+    }
+}
+
+// What a wait report is refused with before any step: 1, 2, then 4 where there is no such source.
+fn wait_verdict(image: &[u8], all: Channels, source: u32) -> Verdict
+    ensures { λ v. ⌜ v ≡ waitVerdict (state (now (image .entry))) (listOf all) source ⌝ }
+{
+    match lent_verdict(image, all) {
+        Verdict::Accepted => {
+            if (source as usize) < EXTERNALS + all.count {
+                return Verdict::Accepted;
+            }
+            Verdict::Refused(Refusal::Number)
+        }
+        Verdict::Refused(r) => Verdict::Refused(r),
+    }
+}
+
+// The wait report: a run up to the acknowledgement of a source, with its arbitrations counted.
+pub fn wait(image: &mut [u8], all: Channels, source: u32, words: &[u64]) -> Waited
+    ensures { λ w. ⌜ Waits (now (image .entry)) (listOf all) source (now (words .entry)) w (now (image .exit)) ⌝ }
+{
+    match wait_verdict(image, all, source) {
+        Verdict::Accepted => wait_accepted(image, all, source, words),
+        Verdict::Refused(r) => Waited::Refused(r),
+    }
+}

@@ -1,0 +1,91 @@
+// Steps on an image and a list that are accepted.
+use crate::answers::acknowledged;
+use crate::answers::arbitrations;
+use crate::answers::verdict_of;
+use crate::words::decode;
+use rules::Answer;
+use rules::Channels;
+use rules::Ran;
+use rules::Refusal;
+use rules::Step;
+use rules::Verdict;
+use rules::Waited;
+ghost use mathlib.Core.Path.{_≡_};
+ghost use mathlib.Core.Bool.{true};
+ghost use lib.ListN.{length};
+ghost use Rattle.rules.specs.Image.{imageLength, state};
+ghost use Rattle.rules.specs.Channels.{listOk, listOf};
+ghost use Rattle.rules.specs.Outcomes.{outcome};
+ghost use Rattle.rules.specs.Steps.{actOf, stepsOf};
+ghost use Rattle.rules.specs.Runs.{runOutcome, runReport, runEvents, waitOutcome, waitReport, waitEvents};
+
+// One step.
+pub fn act(image: &mut [u8], all: Channels, step: Step) -> Answer
+    requires { ⌜ (length (now image) ≡ imageLength) × (listOk (listOf all) ≡ true) ⌝ }
+    ensures { λ a. ⌜ outcome a (state (now (image .exit))) ≡ actOf (state (now (image .entry))) (listOf all) step ⌝ }
+{
+    match step {
+        Step::Read(register) => registers::read(image, all, register),
+        Step::Write(register, value) => registers::write(image, all, register, value),
+        Step::Trigger(event) => arbiter::trigger(image, all, event),
+        Step::Arbitrate => arbiter::arbitrate(image, all),
+        Step::Return => arbiter::return_from_interrupt(image),
+        Step::Reset => registers::reset(image),
+        Step::Unknown => Answer::Refused(Refusal::Kind),
+    }
+}
+
+// The steps one after another, up to the first refused.
+pub fn run_accepted(image: &mut [u8], all: Channels, words: &[u64]) -> Ran
+    requires { ⌜ (length (now image) ≡ imageLength) × (listOk (listOf all) ≡ true) ⌝ }
+    ensures { λ r. ⌜ runOutcome r (state (now (image .exit))) ≡ runReport (state (now (image .entry))) 0 Answer.NoStep (runEvents (state (now (image .entry))) (listOf all) (stepsOf (now (words .entry)))) ⌝ }
+{
+    let mut steps: usize = 0;
+    let mut last = Answer::NoStep;
+    while steps < words.len() {
+        let a = act(image, all, decode(words[steps]));
+        match verdict_of(a) {
+            Verdict::Accepted => {
+                last = a;
+                steps += 1;
+            }
+            Verdict::Refused(refusal) => {
+                return Ran::RefusedAt {
+                    refusal,
+                    index: steps,
+                };
+            }
+        }
+    }
+    Ran::Done { steps, last }
+}
+
+// The same up to the acknowledgement of a source, if there is one; every arbitration is counted that isn't refused.
+pub fn wait_accepted(image: &mut [u8], all: Channels, source: u32, words: &[u64]) -> Waited
+    requires { ⌜ (length (now image) ≡ imageLength) × (listOk (listOf all) ≡ true) ⌝ }
+    ensures { λ w. ⌜ waitOutcome w (state (now (image .exit))) ≡ waitReport source (state (now (image .entry))) 0 0 Answer.NoStep (waitEvents (state (now (image .entry))) (listOf all) source (stepsOf (now (words .entry)))) ⌝ }
+{
+    let mut steps: usize = 0;
+    let mut made: usize = 0;
+    while steps < words.len() {
+        let step = decode(words[steps]);
+        let a = act(image, all, step);
+        match verdict_of(a) {
+            Verdict::Accepted => {
+                steps += 1;
+                made += arbitrations(step);
+                if acknowledged(a, source) {
+                    return Waited::Acknowledged { arbitrations: made };
+                }
+            }
+            Verdict::Refused(refusal) => {
+                return Waited::RefusedAt {
+                    refusal,
+                    index: steps,
+                    arbitrations: made,
+                };
+            }
+        }
+    }
+    Waited::Ended { arbitrations: made }
+}

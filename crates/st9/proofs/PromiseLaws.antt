@@ -1,0 +1,84 @@
+-- What a promise says of the copy it says of the lent list, and what demand 3 says of a run and of a wait report that keep theirs. Assumes nothing.
+use mathlib.Core.Path.{_≡_, refl, sym, subst}
+use mathlib.Core.Bool.{Bool, true, false, cond}
+use mathlib.Core.List.{List}
+use Prim.Native.Nat.{ℕ, _<_}
+use lib.Dec.{eqb}
+use lib.ListN.{length}
+use Rattle.rules.specs.declared.Channel.{Channel}
+use Rattle.rules.specs.declared.Step.{Step}
+use Rattle.rules.specs.declared.Answer.{Answer}
+use Rattle.rules.specs.declared.Ran.{Ran}
+use Rattle.rules.specs.declared.Waited.{Waited}
+use Rattle.rules.specs.declared.Verdict.{Verdict}
+use Rattle.rules.specs.declared.Verdict.the-variants as verdict
+use Rattle.rules.specs.declared.Refusal.the-variants as refusal
+use Rattle.rules.specs.Image.{Image, State, state, imageLength}
+use Rattle.rules.specs.Channels.{mostRecords, listOf}
+use Rattle.rules.specs.Outcomes.{Outcome}
+use Rattle.rules.specs.Steps.{lentVerdict, stepOf, stepsOf}
+use Rattle.rules.specs.Runs.{RunOutcome, runOf, WaitOutcome, waitVerdict, waitOf}
+use Rattle.rules.specs.Answers.{told, toldRun, toldWait}
+use Rattle.rules.specs.Promises.{Does, Runs, Waits}
+use Rattle.rules.specs.Waiting.{Demand3OfRun, Demand3OfWait}
+use Rattle.rules.proofs.ListLaws.{list-long}
+use Rattle.rules.proofs.Told.{told-wait-injective}
+use Rattle.rules.proofs.RunsAndWaits.{run-demand3, wait-demand3}
+use Rattle.lent.specs.Copies.{copyOf}
+use Rattle.lent.proofs.CopyLaws.{through}
+
+-- ---- a list over twelve is refused, whatever is in it
+
+abbrev refused : Bool → Verdict
+refused b = verdict.Refused (cond b refusal.List refusal.Length)
+
+long-refused : (s : State) (cs : List Channel) → mostRecords < length cs → lentVerdict s cs ≡ refused (eqb (length (s .image)) imageLength)
+unfolding lentVerdict
+long-refused s cs h = rw (list-long cs h) (go (eqb (length (s .image)) imageLength))
+  where
+    go : (b : Bool) → cond b (verdict.Refused refusal.List) (verdict.Refused refusal.Length) ≡ refused b
+    go true = refl
+    go false = refl
+
+module _ (s : State) (bs cs : List Channel) (h : mostRecords < length bs) (k : mostRecords < length cs) where
+  step-alike : (x : Step) → stepOf s bs x ≡ stepOf s cs x
+  unfolding stepOf
+  step-alike x = rw (long-refused s bs h, long-refused s cs k)
+
+  run-alike : (xs : List Step) → runOf s bs xs ≡ runOf s cs xs
+  unfolding runOf
+  run-alike xs = rw (long-refused s bs h, long-refused s cs k)
+
+  wait-alike : (source : ℕ) (xs : List Step) → waitOf s bs source xs ≡ waitOf s cs source xs
+  unfolding waitOf waitVerdict
+  wait-alike source xs = rw (long-refused s bs h, long-refused s cs k)
+
+-- ---- from the copy to the lent list
+
+module _ (m : Image) (cs : List Channel) where
+  -- one step
+  pub lent-does : (x : Step) (a : Answer) (m' : Image) → Does m (listOf (copyOf cs)) x a m' → Does m cs x a m'
+  lent-does x a m' =
+      subst (λ (o : Outcome). (told a ≡ told (o .answer)) × (m' ≡ o .state .image))
+      (through (λ (l : List Channel). stepOf (state m) l x) (λ bs ds h k. step-alike (state m) bs ds h k x) cs)
+
+  -- a run, with what demand 3 says of it
+  pub lent-runs : (ws : List ℕ) (r : Ran) (m' : Image) → Runs m (listOf (copyOf cs)) ws r m' → Runs m cs ws r m' × Demand3OfRun m cs (stepsOf ws) m'
+  lent-runs ws r m' promise =
+      let p : Runs m cs ws r m' =
+      subst (λ (o : RunOutcome). (toldRun r ≡ toldRun (o .answer)) × (m' ≡ o .state .image))
+      (through (λ (l : List Channel). runOf (state m) l (stepsOf ws)) (λ bs ds h k. run-alike (state m) bs ds h k (stepsOf ws)) cs) promise in
+      (p, subst (Demand3OfRun m cs (stepsOf ws)) (sym (p .1)) (run-demand3 m cs (stepsOf ws)))
+
+  -- a wait report, likewise
+  pub lent-waits : (source : ℕ) (ws : List ℕ) (w : Waited) (m' : Image) → Waits m (listOf (copyOf cs)) source ws w m'
+      → Waits m cs source ws w m' × Demand3OfWait m cs source (stepsOf ws) w m'
+  lent-waits source ws w m' promise =
+      let p : Waits m cs source ws w m' =
+      subst (λ (o : WaitOutcome). (toldWait w ≡ toldWait (o .answer)) × (m' ≡ o .state .image))
+      (through (λ (l : List Channel). waitOf (state m) l source (stepsOf ws)) (λ bs ds h k. wait-alike (state m) bs ds h k source (stepsOf ws)) cs) promise in
+      let o : WaitOutcome = waitOf (state m) cs source (stepsOf ws) in (
+        p,
+        subst (λ (v : Waited). Demand3OfWait m cs source (stepsOf ws) v m') (sym (told-wait-injective w (o .answer) (p .0)))
+            (subst (λ (n : Image). Demand3OfWait m cs source (stepsOf ws) (o .answer) n) (sym (p .1)) (wait-demand3 m cs source (stepsOf ws))),
+      )

@@ -1,0 +1,98 @@
+// The public library. Each function takes the image and the channel list as they are lent, whatever they are, and answers for them: a bad one is refused with
+// document 01's number and every byte stays.
+use lent::copied;
+use rules::Answer;
+use rules::Channel;
+use rules::Ran;
+use rules::Trigger;
+use rules::Verdict;
+use rules::Waited;
+ghost use Rattle.rules.specs.Steps.{stepsOf};
+ghost use Rattle.rules.specs.Promises.{Reads, Writes, Triggers, Arbitrates, Returns, Resets, DoesWord, Runs, Waits, Views, ViewRefuses};
+ghost use Rattle.rules.specs.Waiting.{Demand3OfRun, Demand3OfWait};
+
+// Reads a register of the selected page or of the register file.
+pub fn read(image: &[u8], cs: &[Channel], register: u32) -> Answer
+    ensures { λ a. ⌜ Reads (now (image .entry)) (now (cs .entry)) register a ⌝ }
+{
+    let all = copied(cs);
+    machine::read(image, all, register)
+}
+
+// Writes a register, and answers the pending bits that the write erased.
+pub fn write(image: &mut [u8], cs: &[Channel], register: u32, value: u8) -> Answer
+    ensures { λ a. ⌜ Writes (now (image .entry)) (now (cs .entry)) register value a (now (image .exit)) ⌝ }
+{
+    let all = copied(cs);
+    machine::write(image, all, register, value)
+}
+
+// A pin edge, the watchdog's end of count, an NMI edge or a channel request.
+pub fn trigger(image: &mut [u8], cs: &[Channel], event: Trigger) -> Answer
+    ensures { λ a. ⌜ Triggers (now (image .entry)) (now (cs .entry)) event a (now (image .exit)) ⌝ }
+{
+    let all = copied(cs);
+    machine::trigger(image, all, event)
+}
+
+// An arbitration.
+pub fn arbitrate(image: &mut [u8], cs: &[Channel]) -> Answer
+    ensures { λ a. ⌜ Arbitrates (now (image .entry)) (now (cs .entry)) a (now (image .exit)) ⌝ }
+{
+    let all = copied(cs);
+    machine::arbitrate(image, all)
+}
+
+// The return from an interrupt.
+pub fn return_from_interrupt(image: &mut [u8], cs: &[Channel]) -> Answer
+    ensures { λ a. ⌜ Returns (now (image .entry)) (now (cs .entry)) a (now (image .exit)) ⌝ }
+{
+    let all = copied(cs);
+    machine::return_from_interrupt(image, all)
+}
+
+// A reset.
+pub fn reset(image: &mut [u8], cs: &[Channel]) -> Answer
+    ensures { λ a. ⌜ Resets (now (image .entry)) (now (cs .entry)) a (now (image .exit)) ⌝ }
+{
+    let all = copied(cs);
+    machine::reset(image, all)
+}
+
+// The step that a word stands for.
+pub fn perform(image: &mut [u8], cs: &[Channel], word: u64) -> Answer
+    ensures { λ a. ⌜ DoesWord (now (image .entry)) (now (cs .entry)) word a (now (image .exit)) ⌝ }
+{
+    let all = copied(cs);
+    machine::perform(image, all, word)
+}
+
+// A run of steps given as words; and what demand 3 says of it.
+pub fn run(image: &mut [u8], cs: &[Channel], words: &[u64]) -> Ran
+    ensures { λ r. ⌜ Runs (now (image .entry)) (now (cs .entry)) (now (words .entry)) r (now (image .exit)) × Demand3OfRun (now (image .entry)) (now (cs .entry)) (stepsOf (now (words .entry))) (now (image .exit)) ⌝ }
+{
+    let all = copied(cs);
+    machine::run(image, all, words)
+}
+
+// The wait report for a source over steps given as words; and what demand 3 says of it.
+pub fn wait(image: &mut [u8], cs: &[Channel], source: u32, words: &[u64]) -> Waited
+    ensures { λ w. ⌜ Waits (now (image .entry)) (now (cs .entry)) source (now (words .entry)) w (now (image .exit)) × Demand3OfWait (now (image .entry)) (now (cs .entry)) source (stepsOf (now (words .entry))) w (now (image .exit)) ⌝ }
+{
+    let all = copied(cs);
+    machine::wait(image, all, source, words)
+}
+
+// The sixteen bytes of a page, as stored: a part of the image, empty where the view is refused.
+pub fn view(image: &[u8], page: u32) -> &[u8]
+    ensures { λ v. ⌜ Views (now (image .entry)) page (now v) ⌝ }
+{
+    registers::view(image, page)
+}
+
+// Whether a view is accepted, or the number that it is refused with.
+pub fn view_verdict(image: &[u8], page: u32) -> Verdict
+    ensures { λ v. ⌜ ViewRefuses (now (image .entry)) page v ⌝ }
+{
+    registers::view_verdict(image, page)
+}
