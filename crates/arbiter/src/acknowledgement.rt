@@ -49,7 +49,7 @@ fn clear_pending(image: &mut [u8], all: Channels, source: u8)
 }
 
 // An acknowledgement: in nested mode the levels first; then the source's bit and IEN are cleared.
-pub fn acknowledge(image: &mut [u8], all: Channels, source: u8, level: u8) -> Answer
+pub(crate) fn acknowledge(image: &mut [u8], all: Channels, source: u8, level: u8) -> Answer
     requires { ⌜ (length (now image) ≡ imageLength) × (listOk (listOf all) ≡ true) × (source < sources (listOf all)) × (level < 8) ⌝ }
     ensures { λ a. ⌜ change a (now (image .exit)) ≡ granted (now (image .entry)) (listOf all) (Winner.Interrupt source level) ⌝ }
 {

@@ -7,7 +7,7 @@ ghost use lib.ListN.{length};
 ghost use Rattle.rules.specs.Image.{imageLength, bitOf, put, putCPL};
 
 // Makes bit k of a byte 1 or 0.
-pub fn put_at(image: &mut [u8], at: usize, k: u8, v: bool)
+pub(crate) fn put_at(image: &mut [u8], at: usize, k: u8, v: bool)
     requires { ⌜ (at < length (now image)) × (k < 8) ⌝ }
     ensures { λ _. ⌜ now (image .exit) ≡ put (now (image .entry)) (bitOf at k) v ⌝ }
 {
@@ -15,7 +15,7 @@ pub fn put_at(image: &mut [u8], at: usize, k: u8, v: bool)
 }
 
 // Makes CPL a level.
-pub fn put_cpl(image: &mut [u8], level: u8)
+pub(crate) fn put_cpl(image: &mut [u8], level: u8)
     requires { ⌜ (length (now image) ≡ imageLength) × (level < 8) ⌝ }
     ensures { λ _. ⌜ now (image .exit) ≡ putCPL (now (image .entry)) level ⌝ }
 {

@@ -25,7 +25,7 @@ fn push(image: &mut [u8])
 }
 
 // In nested mode pushes the current level; the level becomes the current one.
-pub fn nest(image: &mut [u8], level: u8)
+pub(crate) fn nest(image: &mut [u8], level: u8)
     requires { ⌜ (length (now image) ≡ imageLength) × (level < 8) ⌝ }
     ensures { λ _. ⌜ now (image .exit) ≡ cond (has (now (image .entry)) IAM) (nested (now (image .entry)) level) (now (image .entry)) ⌝ }
 {
@@ -56,7 +56,7 @@ fn pop(image: &mut [u8], level: u8)
 }
 
 // In nested mode pops the restored level, which becomes the current one.
-pub fn unnest(image: &mut [u8])
+pub(crate) fn unnest(image: &mut [u8])
     requires { ⌜ length (now image) ≡ imageLength ⌝ }
     ensures { λ _. ⌜ now (image .exit) ≡ cond (has (now (image .entry)) IAM) (unnested (now (image .entry))) (now (image .entry)) ⌝ }
 {

@@ -79,7 +79,7 @@ fn serve(image: &mut [u8], c: Channel, n: usize, source: u8) -> Answer
 }
 
 // A DMA service: refused with 5 where DCPR names memory, then with 6 where the pair or the address is over R223.
-pub fn transfer(image: &mut [u8], c: Channel, source: u8) -> Answer
+pub(crate) fn transfer(image: &mut [u8], c: Channel, source: u8) -> Answer
     requires { ⌜ (length (now image) ≡ imageLength) × (recordOk c ≡ true) ⌝ }
     ensures { λ a. ⌜ change a (now (image .exit)) ≡ transferOf (now (image .entry)) c source ⌝ }
 {

@@ -54,7 +54,7 @@ fn edge_matches(direction: u8, rising: bool) -> bool
 }
 
 // A pin edge. Pin 0 counts only with IAOS = 1.
-pub fn pin_edge(image: &mut [u8], pin: u32, direction: u8) -> Answer
+pub(crate) fn pin_edge(image: &mut [u8], pin: u32, direction: u8) -> Answer
     requires { ⌜ length (now image) ≡ imageLength ⌝ }
     ensures { λ a. ⌜ ((cs : List Channel) → change a (now (image .exit)) ≡ triggerOf (now (image .entry)) cs (Trigger.Pin pin direction)) ⌝ }
 {
@@ -68,7 +68,7 @@ pub fn pin_edge(image: &mut [u8], pin: u32, direction: u8) -> Answer
 }
 
 // The watchdog's end of count: EIPR bit 0 with IAOS = 0, and TLIP with TLIS = 0.
-pub fn watchdog(image: &mut [u8]) -> Answer
+pub(crate) fn watchdog(image: &mut [u8]) -> Answer
     requires { ⌜ length (now image) ≡ imageLength ⌝ }
     ensures { λ a. ⌜ ((cs : List Channel) → change a (now (image .exit)) ≡ triggerOf (now (image .entry)) cs Trigger.Watchdog) ⌝ }
 {
@@ -79,7 +79,7 @@ pub fn watchdog(image: &mut [u8]) -> Answer
 }
 
 // An NMI edge: TLIP with TLIS = 1, where the direction matches TLTEV.
-pub fn nmi_edge(image: &mut [u8], direction: u8) -> Answer
+pub(crate) fn nmi_edge(image: &mut [u8], direction: u8) -> Answer
     requires { ⌜ length (now image) ≡ imageLength ⌝ }
     ensures { λ a. ⌜ ((cs : List Channel) → change a (now (image .exit)) ≡ triggerOf (now (image .entry)) cs (Trigger.Nmi direction)) ⌝ }
 {
@@ -92,7 +92,7 @@ pub fn nmi_edge(image: &mut [u8], direction: u8) -> Answer
 }
 
 // A channel request: IP of the record.
-pub fn channel_request(image: &mut [u8], all: Channels, number: u32) -> Answer
+pub(crate) fn channel_request(image: &mut [u8], all: Channels, number: u32) -> Answer
     requires { ⌜ (length (now image) ≡ imageLength) × (listOk (listOf all) ≡ true) ⌝ }
     ensures { λ a. ⌜ change a (now (image .exit)) ≡ triggerOf (now (image .entry)) (listOf all) (Trigger.Request number) ⌝ }
 {

@@ -7,7 +7,7 @@ ghost use Rattle.rules.specs.Outcomes.{verdictOf};
 ghost use Rattle.rules.specs.Runs.{acknowledges, isArbitration, oneIf};
 
 // Whether an answer is a refusal, and which.
-pub fn verdict_of(a: Answer) -> Verdict
+pub(crate) fn verdict_of(a: Answer) -> Verdict
     ensures { λ v. ⌜ v ≡ verdictOf a ⌝ }
 {
     match a {
@@ -33,7 +33,7 @@ pub fn verdict_of(a: Answer) -> Verdict
 }
 
 // Whether an answer acknowledges a source: as an interrupt, not by DMA.
-pub fn acknowledged(a: Answer, source: u32) -> bool
+pub(crate) fn acknowledged(a: Answer, source: u32) -> bool
     ensures { λ b. ⌜ b ≡ acknowledges source a ⌝ }
 {
     match a {
@@ -59,7 +59,7 @@ pub fn acknowledged(a: Answer, source: u32) -> bool
 }
 
 // 1 for an arbitration, else 0.
-pub fn arbitrations(step: Step) -> usize
+pub(crate) fn arbitrations(step: Step) -> usize
     ensures { λ n. ⌜ n ≡ oneIf (isArbitration step) ⌝ }
 {
     match step {

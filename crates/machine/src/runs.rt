@@ -20,7 +20,7 @@ ghost use Rattle.rules.specs.Steps.{actOf, stepsOf};
 ghost use Rattle.rules.specs.Runs.{runOutcome, runReport, runEvents, waitOutcome, waitReport, waitEvents};
 
 // One step.
-pub fn act(image: &mut [u8], all: Channels, step: Step) -> Answer
+pub(crate) fn act(image: &mut [u8], all: Channels, step: Step) -> Answer
     requires { ⌜ (length (now image) ≡ imageLength) × (listOk (listOf all) ≡ true) ⌝ }
     ensures { λ a. ⌜ outcome a (state (now (image .exit))) ≡ actOf (state (now (image .entry))) (listOf all) step ⌝ }
 {
@@ -36,7 +36,7 @@ pub fn act(image: &mut [u8], all: Channels, step: Step) -> Answer
 }
 
 // The steps one after another, up to the first refused.
-pub fn run_accepted(image: &mut [u8], all: Channels, words: &[u64]) -> Ran
+pub(crate) fn run_accepted(image: &mut [u8], all: Channels, words: &[u64]) -> Ran
     requires { ⌜ (length (now image) ≡ imageLength) × (listOk (listOf all) ≡ true) ⌝ }
     ensures { λ r. ⌜ runOutcome r (state (now (image .exit))) ≡ runReport (state (now (image .entry))) 0 Answer.NoStep (runEvents (state (now (image .entry))) (listOf all) (stepsOf (now (words .entry)))) ⌝ }
 {
@@ -61,7 +61,7 @@ pub fn run_accepted(image: &mut [u8], all: Channels, words: &[u64]) -> Ran
 }
 
 // The same up to the acknowledgement of a source, if there is one; every arbitration is counted that isn't refused.
-pub fn wait_accepted(image: &mut [u8], all: Channels, source: u32, words: &[u64]) -> Waited
+pub(crate) fn wait_accepted(image: &mut [u8], all: Channels, source: u32, words: &[u64]) -> Waited
     requires { ⌜ (length (now image) ≡ imageLength) × (listOk (listOf all) ≡ true) ⌝ }
     ensures { λ w. ⌜ waitOutcome w (state (now (image .exit))) ≡ waitReport source (state (now (image .entry))) 0 0 Answer.NoStep (waitEvents (state (now (image .entry))) (listOf all) source (stepsOf (now (words .entry)))) ⌝ }
 {

@@ -21,7 +21,7 @@ fn trigger_by(kind: u64, first: u32, second: u8) -> Trigger
 }
 
 // The step that a word stands for; kind 0 read, 1 write, 2 trigger, 3 arbitration, 4 return, 5 reset.
-pub fn decode(word: u64) -> Step
+pub(crate) fn decode(word: u64) -> Step
     ensures { λ s. ⌜ s ≡ decodeOf word ⌝ }
 {
     let first = ((word >> 8) % 0x100_0000) as u32;

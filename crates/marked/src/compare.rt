@@ -6,15 +6,15 @@ use rules::IMAGE_LENGTH;
 ghost use mathlib.Core.Path.{_≡_};
 ghost use mathlib.Core.Bool.{true};
 ghost use Rattle.rules.specs.Runs.{oneIf};
-ghost use Rattle.rules.specs.Answers.{Told, tell, told, effectNumber};
+ghost use Rattle.rules.specs.Answers.{tell, told, effectNumber};
 ghost use Rattle.marked.specs.Flattened.{toldBy};
 
 // An answer's number and its values.
-pub struct Flat {
-    pub number: u64,
-    pub first: u64,
-    pub second: u64,
-    pub third: u64,
+pub(crate) struct Flat {
+    pub(crate) number: u64,
+    pub(crate) first: u64,
+    pub(crate) second: u64,
+    pub(crate) third: u64,
 }
 
 fn values(number: u64, first: u64, second: u64, third: u64) -> Flat
@@ -88,7 +88,7 @@ fn same_image(a: [u8; IMAGE_LENGTH], b: [u8; IMAGE_LENGTH]) -> bool
 }
 
 // Whether the answer and the image are those that are expected.
-pub fn as_said(
+pub(crate) fn as_said(
     a: Answer,
     answer: Answer,
     image: [u8; IMAGE_LENGTH],

@@ -60,6 +60,24 @@ fn acknowledged() {
     wait(m, none(), 2, &words);
 }
 
+// Reads, writes and triggers are no arbitrations and acknowledge nothing.
+fn other_steps() {
+    let m = two_pending();
+    report::start(
+        b"read R230, write 03h to EIPR, pin 0, arbitrate, return, arbitrate",
+        m,
+    );
+    let words = [
+        read_word(230),
+        write_word(243, 0x03),
+        pin_word(0, 0),
+        arbitrate_word(),
+        return_word(),
+        arbitrate_word(),
+    ];
+    wait(m, none(), 1, &words);
+}
+
 // Steps after the acknowledgement are never looked at.
 fn rest_unseen() {
     let m = two_pending();
@@ -293,6 +311,7 @@ fn source_numbers() {
 
 fn main() {
     acknowledged();
+    other_steps();
     rest_unseen();
     twice();
     at_the_bound();

@@ -1,3 +1,4 @@
+-- Each answer by its number and values.
 use borrow.Author.Needs.{needs}
 use Rattle.marked.proofs.compare.flattened.Statement.{statement}
 use Rattle.marked.proofs.compare.flattened.Tie as tie
