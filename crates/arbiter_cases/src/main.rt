@@ -1,6 +1,5 @@
 // Runs C01 to C13 and other cases of the mark, the top level and the external channels, and prints for each the bytes of the image that are not 0, then for each step
 // what it answers and which bytes it changes. The expected output, beside this program, is written from document 01.
-use rules::Channels;
 use rules::EIVR;
 use rules::IMAGE_LENGTH;
 use rules::MARK;
@@ -8,8 +7,9 @@ use rules::PPR;
 use rules::Trigger;
 use samples::filled;
 use samples::interrupts;
+use samples::none;
 use samples::one;
-use samples::repeated;
+use samples::single;
 use samples::usual;
 use samples::with;
 use samples::with_pair;
@@ -28,15 +28,6 @@ fn returned(image: [u8; IMAGE_LENGTH]) -> [u8; IMAGE_LENGTH] {
 }
 
 // ---- lists: the `usual` record of page p has its IDCR at byte 240 + 16p, then IVR, DCPR, DAPR and data
-
-fn none() -> Channels {
-    repeated(usual(9), 0)
-}
-
-// Page 9, peripheral to register file.
-fn inward() -> Channels {
-    one(usual(9))
-}
 
 // ---- C01 to C13
 
@@ -100,7 +91,7 @@ fn c09_image(cicr: u8, idcr: u8, address: u8, count: u8) -> [u8; IMAGE_LENGTH] {
 fn c09() {
     let m = c09_image(0x87, 0x3A, 20, 1);
     report::start(b"C09", m);
-    arbitrate(m, inward());
+    arbitrate(m, single());
 }
 
 fn c10() {
@@ -108,11 +99,11 @@ fn c10() {
     report::start(b"C10", m);
     arbitrate(
         trigger(
-            arbitrate(m, inward()),
-            inward(),
+            arbitrate(m, single()),
+            single(),
             Trigger::Request { record: 0 },
         ),
-        inward(),
+        single(),
     );
 }
 
@@ -127,7 +118,7 @@ fn c11() {
     );
     let n = with_pair(m, 16, 20, 1);
     report::start(b"C11", n);
-    arbitrate(n, inward());
+    arbitrate(n, single());
 }
 
 fn c12_c13() {
@@ -152,7 +143,7 @@ fn mark_before_refusal() {
     );
     let n = with(m, MARK, 0x02);
     report::start(b"mark 2, memory DMA", n);
-    arbitrate(returned(arbitrate(n, inward())), inward());
+    arbitrate(returned(arbitrate(n, single())), single());
 }
 
 fn mark_before_top_level() {
@@ -201,7 +192,7 @@ fn top_level_before_refusal() {
         0x5A,
     );
     report::start(b"top level, memory DMA", m);
-    arbitrate(returned(arbitrate(m, inward())), inward());
+    arbitrate(returned(arbitrate(m, single())), single());
 }
 
 // ---- interrupts of external channels

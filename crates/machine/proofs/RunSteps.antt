@@ -98,10 +98,10 @@ module _ {s t : State} {cs : List Channel} {ys xs : List Step} {x : Step} {a : A
           (last-free source t (n + 1) (k + oneIf (isArbitration x)) a (waitEvents t cs source xs) v f)
 
       -- it ends with the acknowledgement
-      pub wait-acknowledged : verdictOf a ≡ verdict.Accepted → acknowledges source a ≡ true
+      pub wait-acknowledges : verdictOf a ≡ verdict.Accepted → acknowledges source a ≡ true
           → waitReport source s n k b (waitEvents s cs source ys) ≡ waitOutcome (waited.Acknowledged (k + oneIf (isArbitration x))) t
       unfolding waitReport stateAfter counted until lastAnswer
-      wait-acknowledged v f = rw (events-on v, f, v, f, and-true (isArbitration x), add-zero)
+      wait-acknowledges v f = rw (events-on v, f, v, f, and-true (isArbitration x), add-zero)
 
       -- or is refused at the step
       pub wait-stop : {r : Refusal} → verdictOf a ≡ verdict.Refused r

@@ -65,14 +65,14 @@ pub(crate) fn wait_accepted(image: &mut [u8], all: Channels, source: u32, words:
     requires { ⌜ (length (now image) ≡ imageLength) × (listOk (listOf all) ≡ true) ⌝ }
     ensures { λ w. ⌜ waitOutcome w (state (now (image .exit))) ≡ waitReport source (state (now (image .entry))) 0 0 Answer.NoStep (waitEvents (state (now (image .entry))) (listOf all) source (stepsOf (now (words .entry)))) ⌝ }
 {
-    let mut steps: usize = 0;
+    let mut done: usize = 0;
     let mut made: usize = 0;
-    while steps < words.len() {
-        let step = decode(words[steps]);
+    while done < words.len() {
+        let step = decode(words[done]);
         let a = act(image, all, step);
         match verdict_of(a) {
             Verdict::Accepted => {
-                steps += 1;
+                done += 1;
                 made += arbitrations(step);
                 if acknowledged(a, source) {
                     return Waited::Acknowledged { arbitrations: made };
@@ -81,7 +81,7 @@ pub(crate) fn wait_accepted(image: &mut [u8], all: Channels, source: u32, words:
             Verdict::Refused(refusal) => {
                 return Waited::RefusedAt {
                     refusal,
-                    index: steps,
+                    index: done,
                     arbitrations: made,
                 };
             }

@@ -13,12 +13,13 @@ use rules::Effect;
 use rules::IMAGE_LENGTH;
 use rules::Losses;
 use rules::MARK;
+use rules::MODER;
 use rules::Refusal;
 use rules::Trigger;
 use samples::filled;
 use samples::interrupts;
+use samples::none;
 use samples::one;
-use samples::repeated;
 use samples::usual;
 use samples::with;
 use samples::with_pair;
@@ -26,13 +27,6 @@ use samples::with_record;
 ghost use mathlib.Core.Path.{_≡_};
 ghost use Prim.Native.Nat.{_≤_};
 ghost use Rattle.rules.specs.Runs.{oneIf};
-
-// The mode register.
-const MODER: usize = 235;
-
-fn none() -> Channels {
-    repeated(usual(9), 0)
-}
 
 // ---- one step each: the answer and the whole image after it are these
 

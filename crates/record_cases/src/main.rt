@@ -6,6 +6,7 @@ use samples::channel;
 use samples::interrupts;
 use samples::one;
 use samples::reversed;
+use samples::single;
 use samples::three;
 use samples::twelve;
 use samples::usual;
@@ -15,11 +16,6 @@ use samples::with_record;
 use steps::arbitrate;
 
 // ---- lists: the `usual` record of page p has its IDCR at byte 240 + 16p, then IVR, DCPR, DAPR and data
-
-// Page 9.
-fn single() -> Channels {
-    one(usual(9))
-}
 
 // Pages 11, 9 and 10, the last from register file to peripheral.
 fn mixed() -> Channels {

@@ -65,6 +65,16 @@ fn end(m: [u8; LONGEST]) {
     }
 }
 
+// A step, a step by its word, or a run or a wait report of no step or of an unknown step and a reset.
+enum Call {
+    Step(Step),
+    Word(u64),
+    Run,
+    RunOfTwo,
+    Wait(u32),
+    WaitOfTwo(u32),
+}
+
 fn answer_of(image: &mut [u8], all: Channels, step: Step) -> Answer {
     match step {
         Step::Read(register) => machine::read(image, all, register),
@@ -77,43 +87,35 @@ fn answer_of(image: &mut [u8], all: Channels, step: Step) -> Answer {
     }
 }
 
-fn step(name: &[u8], length: usize, all: Channels, s: Step)
-    requires { ⌜ length ≤ 1266 ⌝ }
-{
-    text(name);
-    let mut m = bytes();
-    report::answer(answer_of(&mut m[..length], all, s));
-    end(m);
+fn make(image: &mut [u8], all: Channels, c: Call) {
+    let none = [0u64; 0];
+    let two = [unknown_word(), reset_word()];
+    match c {
+        Call::Step(s) => report::answer(answer_of(image, all, s)),
+        Call::Word(w) => report::answer(machine::perform(image, all, w)),
+        Call::Run => report::ran(machine::run(image, all, &none)),
+        Call::RunOfTwo => report::ran(machine::run(image, all, &two)),
+        Call::Wait(source) => report::waited(machine::wait(image, all, source, &none)),
+        Call::WaitOfTwo(source) => report::waited(machine::wait(image, all, source, &two)),
+    }
 }
 
-fn perform(name: &[u8], length: usize, all: Channels, word: u64)
+fn made(name: &[u8], length: usize, all: Channels, c: Call)
     requires { ⌜ length ≤ 1266 ⌝ }
 {
     text(name);
     let mut m = bytes();
-    report::answer(machine::perform(&mut m[..length], all, word));
-    end(m);
-}
-
-fn run(name: &[u8], length: usize, all: Channels, words: &[u64])
-    requires { ⌜ length ≤ 1266 ⌝ }
-{
-    text(name);
-    let mut m = bytes();
-    report::ran(machine::run(&mut m[..length], all, words));
-    end(m);
-}
-
-fn wait(name: &[u8], length: usize, all: Channels, source: u32, words: &[u64])
-    requires { ⌜ length ≤ 1266 ⌝ }
-{
-    text(name);
-    let mut m = bytes();
-    report::waited(machine::wait(&mut m[..length], all, source, words));
+    make(&mut m[..length], all, c);
     end(m);
 }
 
 // ---- every kind of step
+
+fn step(name: &[u8], length: usize, all: Channels, s: Step)
+    requires { ⌜ length ≤ 1266 ⌝ }
+{
+    made(name, length, all, Call::Step(s));
+}
 
 fn registers(length: usize, all: Channels)
     requires { ⌜ length ≤ 1266 ⌝ }
@@ -162,24 +164,31 @@ fn others(length: usize, all: Channels)
     step(b"arbitrate: ", length, all, Step::Arbitrate);
     step(b"return: ", length, all, Step::Return);
     step(b"reset: ", length, all, Step::Reset);
-    perform(b"the word of a reset: ", length, all, reset_word());
+    made(
+        b"the word of a reset: ",
+        length,
+        all,
+        Call::Word(reset_word()),
+    );
     step(b"a word of unknown kind: ", length, all, Step::Unknown);
 }
 
 fn runs(length: usize, all: Channels)
     requires { ⌜ length ≤ 1266 ⌝ }
 {
-    let none = [0u64; 0];
-    let words = [unknown_word(), reset_word()];
-    run(b"run of no step: ", length, all, &none);
-    run(b"run of an unknown step and a reset: ", length, all, &words);
-    wait(b"wait for source 0, no step: ", length, all, 0, &none);
-    wait(
+    made(b"run of no step: ", length, all, Call::Run);
+    made(
+        b"run of an unknown step and a reset: ",
+        length,
+        all,
+        Call::RunOfTwo,
+    );
+    made(b"wait for source 0, no step: ", length, all, Call::Wait(0));
+    made(
         b"wait for source 99, an unknown step and a reset: ",
         length,
         all,
-        99,
-        &words,
+        Call::WaitOfTwo(99),
     );
 }
 

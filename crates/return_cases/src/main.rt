@@ -1,16 +1,10 @@
 // Runs cases of nested mode and of returns, and prints for each the bytes of the image that are not 0, then for each step what it answers and which
 // bytes it changes. The expected output, beside this program, is written from document 01.
-use rules::Channels;
 use rules::IMAGE_LENGTH;
 use samples::interrupts;
-use samples::repeated;
-use samples::usual;
+use samples::none;
 use steps::arbitrate;
 use steps::write;
-
-fn none() -> Channels {
-    repeated(usual(9), 0)
-}
 
 fn returned(image: [u8; IMAGE_LENGTH]) -> [u8; IMAGE_LENGTH] {
     steps::return_from_interrupt(image, none())

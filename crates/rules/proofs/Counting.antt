@@ -15,7 +15,7 @@ use Rattle.rules.specs.Runs.{oneIf}
 use Rattle.rules.specs.Waiting.{countBelow, pendingOf}
 use Rattle.rules.proofs.Bools.{both}
 
--- a number counts once at most
+-- `oneIf` is at most 1
 pub one-le : (t : Bool) → oneIf t ≤ 1
 one-le true = omega arith
 one-le false = omega arith

@@ -1,5 +1,5 @@
 -- What each call does to the views, where the image is calm: the bytes end here. Assumes nothing.
-use mathlib.Core.Path.{_≡_, refl}
+use mathlib.Core.Path.{_≡_, refl, sym, subst}
 use mathlib.Core.List.{List}
 use mathlib.Core.Option.{Option, none, some}
 use mathlib.Core.Bool.{Bool, true, false, false≢true, and-false}
@@ -13,7 +13,7 @@ use Rattle.rules.specs.declared.Verdict.{Verdict}
 use Rattle.rules.specs.declared.Verdict.the-variants as verdict
 use Rattle.rules.specs.declared.Winner.{Winner}
 use Rattle.rules.specs.declared.Winner.the-variants as winner
-use Rattle.rules.specs.Image.{Image, state, has, put, IEN, TLIP}
+use Rattle.rules.specs.Image.{Image, State, state, has, put, IEN, TLIP}
 use Rattle.rules.specs.Outcomes.{isRefused}
 use Rattle.rules.specs.Sources.{sources, pendingBit}
 use Rattle.rules.specs.Requests.{winnerOf}
@@ -22,7 +22,7 @@ use Rattle.rules.specs.Arbitration.{cleared, acknowledged, granted, topL
 use Rattle.rules.specs.Return.{returned, returnOf}
 use Rattle.rules.specs.Steps.{actOf, stepOf}
 use Rattle.rules.specs.Waiting.{Calm, isCall}
-use Rattle.rules.proofs.Refusals.{accepted-acts}
+use Rattle.rules.proofs.Refusals.{accepted-acts, refused-same}
 use Rattle.rules.proofs.SelectionLaws.{selected-there}
 use Rattle.rules.proofs.WinnerLaws.{Won, won}
 use Rattle.rules.proofs.Views.{Same, same-refl, Quiet, quiet-if, Puts, puts-quiet, cicr-quiet, pending-puts}
@@ -96,11 +96,15 @@ module _ (m : Image) (cs : List Channel) (a : Calm m cs) where
   act-same step.Arbitrate c = rw arbitration-grants (grant-same (winnerOf m cs) (won m cs (a .noDma)) .0)
   act-same step.Return c = return-quiet .same
   act-same step.Reset c = absurd (false≢true c)
-  act-same step.Unknown c = same-refl cs m
+  act-same step.Unknown c = absurd (false≢true c)
 
   -- a call changes nothing that the wait depends on but the pending bits
-  pub call-same : (x : Step) → isCall x ≡ true → Same cs m (stepOf (state m) cs x .state .image)
-  call-same x c = rw (accepted-acts (state m) cs x (a .long) (a .listed)) (act-same x c)
+  pub call-same : (x : Step) → (isRefused (stepOf (state m) cs x .answer) ≡ false → isCall x ≡ true) → Same cs m (stepOf (state m) cs x .state .image)
+  call-same x c = go (isRefused (stepOf (state m) cs x .answer)) refl
+    where
+      go : (b : Bool) → isRefused (stepOf (state m) cs x .answer) ≡ b → Same cs m (stepOf (state m) cs x .state .image)
+      go true e = subst (λ (t : State). Same cs m (t .image)) (sym (refused-same (state m) cs x e)) (same-refl cs m)
+      go false e = rw (accepted-acts (state m) cs x (a .long) (a .listed)) (act-same x (c e))
 
   -- and no arbitration is refused
   pub arbitration-accepted : isRefused (stepOf (state m) cs step.Arbitrate .answer) ≡ false

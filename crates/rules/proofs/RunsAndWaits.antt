@@ -1,6 +1,6 @@
--- Demand 3 of runs and of wait reports: their events are histories of first steps. Assumes nothing.
-use mathlib.Core.Path.{_≡_, refl, sym, ap, _∙_}
-use mathlib.Core.List.{List, [], _∷_}
+-- Demand 3 of calls one by one, of runs and of wait reports: their events are histories. Assumes nothing.
+use mathlib.Core.Path.{_≡_, refl, sym, ap, ap₂, _∙_}
+use mathlib.Core.List.{List, [], _∷_, map}
 use mathlib.Core.Bool.{Bool, true, false, false≢true, cond, not, _&&_, _||_}
 use Prim.Native.Nat.{ℕ, suc, _+_, _≤_, _<_}
 use native.Mathlib.Omega.{arith}
@@ -13,11 +13,14 @@ use Rattle.rules.specs.declared.Answer.the-variants as answer
 use Rattle.rules.specs.declared.Verdict.{Verdict}
 use Rattle.rules.specs.declared.Verdict.the-variants as verdict
 use Rattle.rules.specs.Image.{Image, state}
-use Rattle.rules.specs.Outcomes.{verdictOf, refuses}
+use Rattle.rules.specs.Outcomes.{outcome, verdictOf, refuses}
 use Rattle.rules.specs.Sources.{pending}
-use Rattle.rules.specs.Runs.{Event, history, stateAfter, eventRefused, oneIf, stepsDone, runEvents, lastAnswer, runReport, runOf, acknowledges, eventAcknowledges, acknowledgedIn, arbitrationsIn, isArbitration, anyEvent, counted, until, waitEvents, waitedIf, waitReport, waitOf}
-use Rattle.rules.specs.Waiting.{H, E, Start, Calls, InTime, Kept, RunDemand3, WaitWithin, WaitDemand3}
+use Rattle.rules.specs.Steps.{stepOf}
+use Rattle.rules.specs.Runs.{Event, history, stateAfter, eventRefused, oneIf, stepsDone, runEvents, lastAnswer, runReport, runOf, acknowledges, eventAcknowledges, acknowledgedIn, arbitrationsIn, isArbitration, anyEvent, counted, until, waitEvents, waitedIf, waitReport, waitVerdict, waitIf, waitOf}
+use Rattle.rules.specs.Waiting.{H, E, Start, Calls, InTime, Kept, RunDemand3, Demand3Of, WaitWithin, WaitDemand3}
+use Rattle.rules.specs.Promises.{Does, Made, AllDo, eventsOf, CallsDemand3}
 use Rattle.rules.proofs.Bools.{not-both}
+use Rattle.rules.proofs.Told.{told-injective}
 use Rattle.rules.proofs.Counting.{one-le}
 use Rattle.rules.proofs.Refusals.{lent-accepted}
 use Rattle.rules.proofs.Histories.{run-prefix, wait-prefix}
@@ -34,6 +37,27 @@ module _ (m : Image) (cs : List Channel) (s : ℕ) (a : Start m cs s) where
   -- and of all of them
   whole : (es : List Event) (ys : List Step) → es ≡ history (state m) cs ys → Calls es → InTime s (H m cs s + E m cs s es) es × Kept m cs s es
   whole es ys e c = rw (take-length es) at (of-history es ys e c (length es))
+
+-- ---- calls one by one
+
+-- what a call answered and left is the step's
+did : (m : Image) (cs : List Channel) (c : Made) → Does m cs (c .step) (c .answer) (c .after) → outcome (c .answer) (state (c .after)) ≡ stepOf (state m) cs (c .step)
+did m cs c d = ap₂ (λ (a : Answer) (n : Image). outcome a (state n)) (told-injective (c .answer) (stepOf (state m) cs (c .step) .answer) (d .0)) (d .1)
+
+-- so calls that keep their promises are a history
+made-history : (m : Image) (cs : List Channel) (made : List Made) → AllDo m cs made → eventsOf m made ≡ history (state m) cs (map (λ (c : Made). c .step) made)
+unfolding history eventsOf
+made-history m cs [] d = refl
+made-history m cs (c ∷ made) d = rw (← did m cs c (d .0)) (ap (λ (es : List Event). record { before = state m; step = c .step; outcome = outcome (c .answer) (state (c .after)) } ∷ es) (made-history (c .after) cs made (d .1)))
+
+-- and demand 3 is true of them
+pub calls-demand3 : CallsDemand3
+calls-demand3 m cs made d s a c =
+    let es = eventsOf m made in
+    let e = made-history m cs made d in
+    (of-history m cs s a es (map (λ (x : Made). x .step) made) e c, whole m cs s a es (map (λ (x : Made). x .step) made) e c .1)
+
+-- ---- a run
 
 -- ours is acknowledged among the steps that a run does, or pending in the image that it leaves
 pub run-demand3 : RunDemand3
@@ -81,10 +105,24 @@ module _ (s : ℕ) where
       go (verdict.Refused r) true e f = absurd (false≢true (ap refuses (sym (acknowledges-accepted s a f) ∙ e)))
       go (verdict.Refused r) false e f = q f
 
--- a wait report answers within the bound, and with ours pending where it is not acknowledged
-pub wait-demand3 : WaitDemand3
+-- whatever source a wait report is for, demand 3 holds of every source that its steps start with
+any-source : (m : Image) (cs : List Channel) (source : ℕ) (xs : List Step) → Demand3Of m cs (waitEvents (state m) cs source xs) (waitOf (state m) cs source xs .state .image)
 unfolding waitOf waitReport
-wait-demand3 m cs s xs a c =
+any-source m cs source xs s a c =
+    let p = wait-prefix (state m) cs source xs in
+    let es = waitEvents (state m) cs source xs in (
+      of-history m cs s a es (take (p .0) xs) (p .2) c,
+      λ f. go (whole m cs s a es (take (p .0) xs) (p .2) c .1 f) (waitVerdict (state m) cs source),
+    )
+  where
+    go : pending (stateAfter (state m) (waitEvents (state m) cs source xs) .image) cs s ≡ true → (v : Verdict) → pending (waitIf v (state m) cs source xs .state .image) cs s ≡ true
+    go p verdict.Accepted = p
+    go p (verdict.Refused r) = a .waits
+
+within-bound : (m : Image) (cs : List Channel) (s : ℕ) (xs : List Step) → Start m cs s → Calls (waitEvents (state m) cs s xs)
+    → WaitWithin (H m cs s + E m cs s (waitEvents (state m) cs s xs)) (waitOf (state m) cs s xs .answer) (pending (waitOf (state m) cs s xs .state .image) cs s)
+unfolding waitOf waitReport
+within-bound m cs s xs a c =
     let es = waitEvents (state m) cs s xs in
     let bound = H m cs s + E m cs s es in
     let p = wait-prefix (state m) cs s xs in
@@ -96,3 +134,7 @@ wait-demand3 m cs s xs a c =
     let none : acknowledgedIn s es ≡ false = sym (last-tells s (runEvents (state m) cs xs) answer.NoStep refl) ∙ f in
     let few : bound < arbitrationsIn es → ⊥ = λ g. not-both (acknowledgedIn s es) (w .0 g) none in
     (omega arith, w .1 none)))
+
+-- both
+pub wait-demand3 : WaitDemand3
+wait-demand3 m cs s xs = (any-source m cs s xs, within-bound m cs s xs)

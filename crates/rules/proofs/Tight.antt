@@ -90,7 +90,7 @@ calls-by (e ∷ es) h =
     let t = and-l (callTest e) (callsTest es) h in
     let is = isCall (e .step) in
     let on = not (isArbitration (e .step)) || has (e .before .image) IEN in (
-      and-l is on t,
+      λ f. and-l is on t,
       λ a. ap (λ (x : Bool). not x || has (e .before .image) IEN) (sym a) ∙ and-r is on t,
       calls-by es (and-r (callTest e) (callsTest es) h),
     )

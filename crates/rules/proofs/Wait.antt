@@ -1,10 +1,10 @@
 -- One call of demand 3's wait, by the views alone: it acknowledges ours, or leaves it pending, and then the pending rivals with the arbitrations
 -- made have grown by no more than the rivals' triggers. Assumes nothing.
-use mathlib.Core.Path.{_≡_, refl, sym, ap, _∙_}
+use mathlib.Core.Path.{_≡_, refl, sym, ap, subst, _∙_}
 use mathlib.Core.Logic.{_⊎_, inl, inr, ⊎-elim, _≢_}
 use mathlib.Core.List.{List}
 use mathlib.Core.Option.{Option, none, some}
-use mathlib.Core.Bool.{Bool, true, false, false≢true, not, _&&_, _||_}
+use mathlib.Core.Bool.{Bool, true, false, false≢true, not, and-false, _&&_, _||_}
 use Prim.Native.Nat.{ℕ, _+_, _≤_, _<_}
 use native.Mathlib.Omega.{arith}
 use native.Mathlib.Decide.{ℕ-discrete}
@@ -18,8 +18,11 @@ use Rattle.rules.specs.declared.Verdict.{Verdict}
 use Rattle.rules.specs.declared.Verdict.the-variants as verdict
 use Rattle.rules.specs.declared.Winner.{Winner}
 use Rattle.rules.specs.declared.Winner.the-variants as winner
-use Rattle.rules.specs.Image.{Image, state, has, IEN}
-use Rattle.rules.specs.Outcomes.{Outcome, changed}
+use Rattle.rules.specs.Image.{Image, State, state, has, IEN}
+use Rattle.rules.specs.Outcomes.{Outcome, outcome, changed, isRefused}
+use Rattle.rules.specs.declared.Answer.{Answer}
+use Rattle.rules.specs.declared.Answer.the-variants as answer
+use Rattle.rules.specs.declared.Refusal.{Refusal}
 use Rattle.rules.specs.Sources.{sources, pending, unmasked, level}
 use Rattle.rules.specs.Requests.{winnerOf}
 use Rattle.rules.specs.Triggers.{triggerVerdict, selects, selectsTop, fire, triggerOf}
@@ -29,7 +32,7 @@ use Rattle.rules.specs.Steps.{actOf, stepOf}
 use Rattle.rules.specs.Runs.{Event, eventRefused, oneIf, eventAcknowledges, isArbitration}
 use Rattle.rules.specs.Waiting.{outranks, rival, pendingOf, within, triggers, Calm, Start, isCall}
 use Rattle.rules.proofs.Bools.{true-or, or-l, or-r, both}
-use Rattle.rules.proofs.Refusals.{accepted-acts}
+use Rattle.rules.proofs.Refusals.{accepted-acts, refused-is, refused-same}
 use Rattle.rules.proofs.WinnerLaws.{Eligible, Won, won}
 use Rattle.rules.proofs.Counting.{pendingOf-same, pendingOf-up, pendingOf-down}
 use Rattle.rules.proofs.Views.{Same}
@@ -156,8 +159,21 @@ module _ (m : Image) (cs : List Channel) (s : ℕ) (a : Start m cs s) (r : ℕ �
       let q = return-quiet m cs (a .calm) in
       inr (record { unanswered = refl; still = q .rest s (a .there) ∙ a .waits; weighed = omega (arith, pendingOf-same cs m (returned m) r (q .rest)) })
   act-law step.Reset c en = absurd (false≢true c)
-  act-law step.Unknown c en = inr (record { unanswered = refl; still = a .waits; weighed = omega arith })
+  act-law step.Unknown c en = absurd (false≢true c)
 
   -- a step of such a list
-  pub law : (x : Step) → isCall x ≡ true → (isArbitration x ≡ true → has m IEN ≡ true) → Law cs s r (event m x (stepOf (state m) cs x))
-  law x c en = rw (accepted-acts (state m) cs x (a .calm .long) (a .calm .listed)) (act-law x c en)
+  pub law : (x : Step) → (isRefused (stepOf (state m) cs x .answer) ≡ false → isCall x ≡ true) → (isArbitration x ≡ true → has m IEN ≡ true)
+      → Law cs s r (event m x (stepOf (state m) cs x))
+  law x c en = go (isRefused (stepOf (state m) cs x .answer)) refl
+    where
+      refused : (n : Refusal) → Law cs s r (event m x (outcome (answer.Refused n) (state m)))
+      refused n = inr (record { unanswered = refl; still = a .waits; weighed = omega (arith, ap oneIf (and-false (isArbitration x))) })
+
+      go : (b : Bool) → isRefused (stepOf (state m) cs x .answer) ≡ b → Law cs s r (event m x (stepOf (state m) cs x))
+      go true e =
+          let q = refused-is (stepOf (state m) cs x .answer) e in
+          let o : stepOf (state m) cs x ≡ outcome (answer.Refused (q .0)) (state m) =
+          ap (λ (b : Answer). outcome b (stepOf (state m) cs x .state)) (q .1)
+          ∙ ap (λ (t : State). outcome (answer.Refused (q .0)) t) (refused-same (state m) cs x e) in
+          subst (λ (o : Outcome). Law cs s r (event m x o)) (sym o) (refused (q .0))
+      go false e = rw (accepted-acts (state m) cs x (a .calm .long) (a .calm .listed)) (act-law x (c e) en)

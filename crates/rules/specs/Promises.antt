@@ -1,7 +1,7 @@
 -- The public promises by name: what a call answers and leaves of the lent image, in the rules' words, for every image, list and argument.
 -- Assumes nothing.
 use mathlib.Core.Path.{_≡_}
-use mathlib.Core.List.{List}
+use mathlib.Core.List.{List, [], _∷_}
 use Prim.Native.Nat.{ℕ}
 use Rattle.rules.specs.declared.Channel.{Channel}
 use Rattle.rules.specs.declared.Trigger.{Trigger}
@@ -13,8 +13,10 @@ use Rattle.rules.specs.declared.Ran.{Ran}
 use Rattle.rules.specs.declared.Waited.{Waited}
 use Rattle.rules.specs.Image.{Image, state}
 use Rattle.rules.specs.Registers.{viewOf, viewVerdict}
+use Rattle.rules.specs.Outcomes.{outcome}
 use Rattle.rules.specs.Steps.{stepOf, decodeOf, stepsOf}
-use Rattle.rules.specs.Runs.{runOf, waitOf}
+use Rattle.rules.specs.Runs.{Event, stateAfter, runOf, waitOf}
+use Rattle.rules.specs.Waiting.{Demand3Of}
 use Rattle.rules.specs.Answers.{told, toldVerdict, toldRun, toldWait}
 
 -- one step answers a and leaves `after`
@@ -59,6 +61,33 @@ abbrev pub Waits : Image → List Channel → ℕ → List ℕ → Waited → Im
 Waits before cs source words w after =
     (toldWait w ≡ toldWait (waitOf (state before) cs source (stepsOf words) .answer))
     × (after ≡ waitOf (state before) cs source (stepsOf words) .state .image)
+
+-- ---- calls one after another: each gets the image that the call before it left, and the same channel list
+
+-- a call that was made: its step, what it answered and what it left
+pub record Made : Type 0 where
+  pub step : Step
+  pub answer : Answer
+  pub after : Image
+
+-- each kept its promise
+abbrev pub AllDo : Image → List Channel → List Made → Type 0
+AllDo before cs [] = Unit {0}
+AllDo before cs (c ∷ made) = Does before cs (c .step) (c .answer) (c .after) × AllDo (c .after) cs made
+
+-- the events that they are
+unfoldable pub eventsOf : Image → List Made → List Event
+eventsOf before [] = []
+eventsOf before (c ∷ made) =
+    record { before = state before; step = c .step; outcome = outcome (c .answer) (state (c .after)) } ∷ eventsOf (c .after) made
+
+-- what demand 3 says of them
+abbrev pub CallsDemand3 : Type 0
+CallsDemand3 =
+    (m : Image) (cs : List Channel) (made : List Made) → AllDo m cs made
+    → Demand3Of m cs (eventsOf m made) (stateAfter (state m) (eventsOf m made) .image)
+
+-- ---- the view
 
 -- the view of a page
 abbrev pub Views : Image → ℕ → List ℕ → Type 0

@@ -91,7 +91,7 @@ pub record Start (m : Image) (cs : List Channel) (s : ℕ) : Type 0 where
   pub unmaskedThere : unmasked m cs s ≡ true
   pub above : level m cs s < CPL m
 
--- triggers, arbitrations and returns; a step of unknown kind is refused and counts nowhere, so the claim holds with it as well
+-- triggers, arbitrations and returns
 abbrev pub isCall : Step → Bool
 isCall (step.Read r) = false
 isCall (step.Write r v) = false
@@ -99,12 +99,13 @@ isCall (step.Trigger t) = true
 isCall step.Arbitrate = true
 isCall step.Return = true
 isCall step.Reset = false
-isCall step.Unknown = true
+isCall step.Unknown = false
 
--- each event is such a call, and interrupts are enabled at each arbitration, on the image that it gets
+-- each event that isn't refused is such a call (a refused step changes nothing and counts nowhere, whatever its kind is), and interrupts are enabled at
+-- each arbitration, on the image that it gets
 abbrev pub Calls : List Event → Type 0
 Calls [] = Unit {0}
-Calls (e ∷ es) = (isCall (e .step) ≡ true) × (isArbitration (e .step) ≡ true → has (e .before .image) IEN ≡ true) × Calls es
+Calls (e ∷ es) = (eventRefused e ≡ false → isCall (e .step) ≡ true) × (isArbitration (e .step) ≡ true → has (e .before .image) IEN ≡ true) × Calls es
 
 -- ---- the claim
 
@@ -125,14 +126,17 @@ Demand3 =
     → (n : ℕ) → InTime s (H m cs s + E m cs s (history (state m) cs xs)) (take n (history (state m) cs xs))
     × Kept m cs s (take n (history (state m) cs xs))
 
--- of a run of xs that leaves `after`, where the steps that it does are such a list: the same of the first n of these steps, for each n; and where
--- ours is not acknowledged among them all, it is pending in what the run leaves
+-- what it says of the events es that leave `after`, where they are such a list: the same of the first n of them, for each n; and where ours is not
+-- acknowledged among them all, it is pending in what they leave
+abbrev pub Demand3Of : Image → List Channel → List Event → Image → Type 0
+Demand3Of m cs es after =
+    (s : ℕ) → Start m cs s → Calls es
+    → ((n : ℕ) → InTime s (H m cs s + E m cs s es) (take n es) × Kept m cs s (take n es))
+    × (acknowledgedIn s es ≡ false → pending after cs s ≡ true)
+
+-- of a run of xs that leaves `after`: of the steps that it did, and the refused one if there is one
 abbrev pub Demand3OfRun : Image → List Channel → List Step → Image → Type 0
-Demand3OfRun m cs xs after =
-    (s : ℕ) → Start m cs s → Calls (runEvents (state m) cs xs)
-    → ((n : ℕ) → InTime s (H m cs s + E m cs s (runEvents (state m) cs xs)) (take n (runEvents (state m) cs xs))
-    × Kept m cs s (take n (runEvents (state m) cs xs)))
-    × (acknowledgedIn s (runEvents (state m) cs xs) ≡ false → pending after cs s ≡ true)
+Demand3OfRun m cs xs after = Demand3Of m cs (runEvents (state m) cs xs) after
 
 -- of every run
 abbrev pub RunDemand3 : Type 0
@@ -146,11 +150,12 @@ WaitWithin bound (waited.RefusedAt r i k) still = (k ≤ bound) × (still ≡ tr
 WaitWithin bound (waited.Ended k) still = (k ≤ bound) × (still ≡ true)
 WaitWithin bound (waited.Acknowledged k) still = k ≤ bound + 1
 
--- of a wait report for s over xs that answers w and leaves `after`, where the steps that it does are such a list
+-- of a wait report for s over xs that answers w and leaves `after`: the same, for every source; and what it answers, where ours is the source waited for
 abbrev pub Demand3OfWait : Image → List Channel → ℕ → List Step → Waited → Image → Type 0
 Demand3OfWait m cs s xs w after =
-    Start m cs s → Calls (waitEvents (state m) cs s xs)
-    → WaitWithin (H m cs s + E m cs s (waitEvents (state m) cs s xs)) w (pending after cs s)
+    Demand3Of m cs (waitEvents (state m) cs s xs) after
+    × (Start m cs s → Calls (waitEvents (state m) cs s xs)
+    → WaitWithin (H m cs s + E m cs s (waitEvents (state m) cs s xs)) w (pending after cs s))
 
 -- of every wait report
 abbrev pub WaitDemand3 : Type 0

@@ -14,6 +14,8 @@ pub const CICR: usize = 230;
 
 pub const PPR: usize = 234;
 
+pub const MODER: usize = 235;
+
 pub const EITR: usize = 242;
 
 pub const EIPR: usize = 243;

@@ -1,23 +1,22 @@
 // Runs cases of runs and of steps given as words, and prints for each the bytes of the image that are not 0, then for each call what it answers and which bytes it
 // changes. The expected output, beside this program, is written from document 01.
 use report::text;
-use rules::Channels;
 use rules::EIVR;
 use rules::IMAGE_LENGTH;
 use rules::PPR;
 use samples::arbitrate_word;
 use samples::interrupts;
 use samples::nmi_word;
+use samples::none;
 use samples::one;
 use samples::pin_word;
 use samples::read_word;
-use samples::repeated;
 use samples::request_word;
 use samples::reset_word;
 use samples::return_word;
+use samples::single;
 use samples::step_word;
 use samples::unknown_word;
-use samples::usual;
 use samples::watchdog_word;
 use samples::with;
 use samples::with_pair;
@@ -26,15 +25,7 @@ use samples::write_word;
 use steps::perform;
 use steps::run;
 
-// ---- images and lists
-
-fn none() -> Channels {
-    repeated(usual(9), 0)
-}
-
-fn single() -> Channels {
-    one(usual(9))
-}
+// ---- images
 
 // External channels 0 and 1 pending and unmasked, levels 0 and 1, CPL 7, interrupts enabled.
 fn two_pending() -> [u8; IMAGE_LENGTH] {
@@ -169,6 +160,24 @@ fn nested() {
     run(m, none(), &words);
 }
 
+// A run goes on after each kind of step.
+fn every_kind() {
+    let m = two_pending();
+    report::start(
+        b"read R230, reset, write 01h to EIMR, pin 0, return, arbitrate",
+        m,
+    );
+    let words = [
+        read_word(230),
+        reset_word(),
+        write_word(244, 0x01),
+        pin_word(0, 0),
+        return_word(),
+        arbitrate_word(),
+    ];
+    run(m, none(), &words);
+}
+
 // The page that a write to PPR selects holds for the steps after it.
 fn selected_page() {
     let m = with(recorded(0x00, 0x11, 20, 2), PPR, 0x00);
@@ -277,10 +286,12 @@ fn large_numbers() {
     report::start(b"large numbers", m);
     word(b"read R486", m, read_word(486));
     word(b"read R65766", m, read_word(65_766));
+    word(b"read R8388838", m, read_word(8_388_838));
     word(b"read R16777215", m, read_word(0xFF_FFFF));
     word(b"write 00h to R499", m, write_word(499, 0x00));
     word(b"pin 256, direction 0", m, pin_word(256, 0));
     word(b"pin 65536, direction 0", m, pin_word(65_536, 0));
+    word(b"pin 8388608, direction 0", m, pin_word(8_388_608, 0));
     word(b"pin 0, direction 255", m, pin_word(0, 255));
     word(b"NMI, direction 255", m, nmi_word(255));
     word(b"request 256", m, request_word(256));
@@ -293,10 +304,12 @@ fn unknown_kinds() {
     word(b"kind 6", m, step_word(6, 0, 230, 0));
     word(b"kind 256", m, step_word(256, 0, 230, 0));
     word(b"kind 259", m, step_word(259, 0, 0, 0));
+    word(b"kind 32771", m, step_word(32_771, 0, 0, 0));
     word(b"every bit", m, step_word(65_535, 65_535, 0xFF_FFFF, 255));
     word(b"trigger 4", m, step_word(2, 4, 0, 0));
     word(b"trigger 256", m, step_word(2, 256, 0, 0));
     word(b"trigger 259", m, step_word(2, 259, 0, 0));
+    word(b"trigger 32768", m, step_word(2, 32_768, 1, 0));
     word(
         b"trigger 4, pin 16777215, direction 255",
         m,
@@ -311,6 +324,7 @@ fn main() {
     several_steps();
     top_level();
     nested();
+    every_kind();
     block();
     selected_page();
     many_steps();

@@ -9,11 +9,13 @@ use rules::EIVR;
 use rules::IMAGE_LENGTH;
 use rules::MOST_RECORDS;
 use rules::NICR;
+use rules::Step;
+use rules::Trigger;
 ghost use mathlib.Core.Path.{_≡_};
 ghost use Prim.Native.Nat.{_+_, _*_, _^_, _<_};
 ghost use lib.ListN.{set, replicate};
 ghost use Rattle.rules.specs.Image.{imageLength};
-ghost use Rattle.rules.specs.Steps.{stepBy, decodeOf};
+ghost use Rattle.rules.proofs.StepWords.{word, wordOf};
 ghost use Rattle.samples.specs.Samples.{Counted, interruptsOf, withRecord, channelOf, usualOf, reversedOf, listBy, sameItems, elevenAnd};
 
 // An image of one byte throughout.
@@ -174,12 +176,26 @@ pub fn twelve(last: Channel, count: usize) -> Channels
     }
 }
 
+// No record.
+pub fn none() -> Channels
+    ensures { λ l. ⌜ l ≡ listBy (sameItems (usualOf 9)) 0 ⌝ }
+{
+    repeated(usual(9), 0)
+}
+
+// The `usual` record of page 9 alone.
+pub fn single() -> Channels
+    ensures { λ l. ⌜ l ≡ listBy (sameItems (usualOf 9)) 1 ⌝ }
+{
+    one(usual(9))
+}
+
 // ---- steps as words
 
-// The step of a kind, a trigger kind, a first field under 2^24 and a second.
+// The word of a kind, a trigger kind, a first field under 2^24 and a second.
 pub fn step_word(kind: u16, trigger: u16, first: u32, second: u8) -> u64
     requires { ⌜ first < 2 ^ 24 ⌝ }
-    ensures { λ w. ⌜ decodeOf w ≡ stepBy kind trigger first second ⌝ }
+    ensures { λ w. ⌜ w ≡ word kind trigger first second ⌝ }
 {
     (kind as u64) * 0x1_0000_0000_0000
         + (trigger as u64) * 0x1_0000_0000
@@ -190,7 +206,7 @@ pub fn step_word(kind: u16, trigger: u16, first: u32, second: u8) -> u64
 // A read.
 pub fn read_word(register: u32) -> u64
     requires { ⌜ register < 2 ^ 24 ⌝ }
-    ensures { λ w. ⌜ decodeOf w ≡ stepBy 0 0 register 0 ⌝ }
+    ensures { λ w. ⌜ w ≡ wordOf (Step.Read register) ⌝ }
 {
     step_word(0, 0, register, 0)
 }
@@ -198,7 +214,7 @@ pub fn read_word(register: u32) -> u64
 // A write.
 pub fn write_word(register: u32, value: u8) -> u64
     requires { ⌜ register < 2 ^ 24 ⌝ }
-    ensures { λ w. ⌜ decodeOf w ≡ stepBy 1 0 register value ⌝ }
+    ensures { λ w. ⌜ w ≡ wordOf (Step.Write register value) ⌝ }
 {
     step_word(1, 0, register, value)
 }
@@ -206,21 +222,21 @@ pub fn write_word(register: u32, value: u8) -> u64
 // A pin edge.
 pub fn pin_word(pin: u32, direction: u8) -> u64
     requires { ⌜ pin < 2 ^ 24 ⌝ }
-    ensures { λ w. ⌜ decodeOf w ≡ stepBy 2 0 pin direction ⌝ }
+    ensures { λ w. ⌜ w ≡ wordOf (Step.Trigger (Trigger.Pin pin direction)) ⌝ }
 {
     step_word(2, 0, pin, direction)
 }
 
 // The watchdog's end of count.
 pub fn watchdog_word() -> u64
-    ensures { λ w. ⌜ decodeOf w ≡ stepBy 2 1 0 0 ⌝ }
+    ensures { λ w. ⌜ w ≡ wordOf (Step.Trigger Trigger.Watchdog) ⌝ }
 {
     step_word(2, 1, 0, 0)
 }
 
 // An NMI edge.
 pub fn nmi_word(direction: u8) -> u64
-    ensures { λ w. ⌜ decodeOf w ≡ stepBy 2 2 0 direction ⌝ }
+    ensures { λ w. ⌜ w ≡ wordOf (Step.Trigger (Trigger.Nmi direction)) ⌝ }
 {
     step_word(2, 2, 0, direction)
 }
@@ -228,35 +244,35 @@ pub fn nmi_word(direction: u8) -> u64
 // A channel request.
 pub fn request_word(position: u32) -> u64
     requires { ⌜ position < 2 ^ 24 ⌝ }
-    ensures { λ w. ⌜ decodeOf w ≡ stepBy 2 3 position 0 ⌝ }
+    ensures { λ w. ⌜ w ≡ wordOf (Step.Trigger (Trigger.Request position)) ⌝ }
 {
     step_word(2, 3, position, 0)
 }
 
 // An arbitration.
 pub fn arbitrate_word() -> u64
-    ensures { λ w. ⌜ decodeOf w ≡ stepBy 3 0 0 0 ⌝ }
+    ensures { λ w. ⌜ w ≡ wordOf (Step.Arbitrate) ⌝ }
 {
     step_word(3, 0, 0, 0)
 }
 
 // A return.
 pub fn return_word() -> u64
-    ensures { λ w. ⌜ decodeOf w ≡ stepBy 4 0 0 0 ⌝ }
+    ensures { λ w. ⌜ w ≡ wordOf (Step.Return) ⌝ }
 {
     step_word(4, 0, 0, 0)
 }
 
 // A reset.
 pub fn reset_word() -> u64
-    ensures { λ w. ⌜ decodeOf w ≡ stepBy 5 0 0 0 ⌝ }
+    ensures { λ w. ⌜ w ≡ wordOf (Step.Reset) ⌝ }
 {
     step_word(5, 0, 0, 0)
 }
 
 // A step of unknown kind.
 pub fn unknown_word() -> u64
-    ensures { λ w. ⌜ decodeOf w ≡ stepBy 6 0 0 0 ⌝ }
+    ensures { λ w. ⌜ w ≡ wordOf (Step.Unknown) ⌝ }
 {
     step_word(6, 0, 0, 0)
 }

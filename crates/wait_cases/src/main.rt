@@ -1,35 +1,28 @@
 // Runs cases of the wait report, and prints for each the bytes of the image that are not 0, then what it answers and which bytes it changes. The expected output,
 // beside this program, is written from document 01.
-use rules::Channels;
 use rules::IMAGE_LENGTH;
 use rules::PPR;
 use samples::arbitrate_word;
 use samples::interrupts;
+use samples::none;
 use samples::one;
 use samples::pin_word;
 use samples::read_word;
-use samples::repeated;
 use samples::request_word;
 use samples::reset_word;
 use samples::return_word;
+use samples::single;
 use samples::twelve;
 use samples::unknown_word;
 use samples::usual;
+use samples::watchdog_word;
 use samples::with;
 use samples::with_pair;
 use samples::with_record;
 use samples::write_word;
 use steps::wait;
 
-// ---- images and lists
-
-fn none() -> Channels {
-    repeated(usual(9), 0)
-}
-
-fn single() -> Channels {
-    one(usual(9))
-}
+// ---- images
 
 // External channels 0 and 1 pending and unmasked, levels 0 and 1, CPL 7, interrupts enabled.
 fn two_pending() -> [u8; IMAGE_LENGTH] {
@@ -64,13 +57,14 @@ fn acknowledged() {
 fn other_steps() {
     let m = two_pending();
     report::start(
-        b"read R230, write 03h to EIPR, pin 0, arbitrate, return, arbitrate",
+        b"read R230, write 03h to EIPR, pin 0, watchdog, arbitrate, return, arbitrate",
         m,
     );
     let words = [
         read_word(230),
         write_word(243, 0x03),
         pin_word(0, 0),
+        watchdog_word(),
         arbitrate_word(),
         return_word(),
         arbitrate_word(),
@@ -185,7 +179,7 @@ fn many_arbitrations() {
     wait(m, none(), 0, &words);
 }
 
-// Source 7; records 0, 1 and 11 of twelve, one behind the other, and external channel 0, which does not ask.
+// Source 7; records 0, 1 and 11 of twelve, one behind the other, and external channels 0 and 3, which do not ask.
 fn other_sources() {
     let m = interrupts(0x97, 0x00, 0x80, 0xFF, 0x00);
     report::start(b"external channel 7; one arbitration", m);
@@ -227,6 +221,7 @@ fn other_sources() {
     wait(n, twelve(usual(12), 12), 9, &words);
     wait(n, twelve(usual(12), 12), 19, &words);
     wait(n, twelve(usual(12), 12), 0, &words);
+    wait(n, twelve(usual(12), 12), 3, &words);
 }
 
 // ---- a record: a DMA service is no acknowledgement; the interrupt at the end of its block is, as any other of its interrupts

@@ -1,3 +1,4 @@
+-- The count as it is kept.
 use borrow.Author.Tests.{le-leb, lt-leb}
 use Rattle.lent.proofs.blank.Statement.{statement}
 use Rattle.lent.proofs.blank.Tie as tie

@@ -1,5 +1,5 @@
--- The invariant: the wait report of all the words is that of what is left, after the steps done and the arbitrations made, which are no more than
--- the steps.
+-- The invariant: the wait report of all the words is that of what is left, after the done done and the arbitrations made, which are no more than
+-- the done.
 use mathlib.Core.Path.{_≡_, refl, sym, _∙_}
 use Prim.Native.Nat.{_-_, _≤_}
 use native.Mathlib.Omega.{arith}
@@ -11,18 +11,18 @@ use Rattle.rules.specs.Channels.{listOf}
 use Rattle.rules.specs.Steps.{stepsOf}
 use Rattle.rules.specs.Runs.{isArbitration, waitReport, waitEvents}
 use Rattle.rules.proofs.Counting.{one-le}
-use Rattle.machine.proofs.RunSteps.{next-word, no-word, wait-on, wait-acknowledged, wait-stop, wait-end}
+use Rattle.machine.proofs.RunSteps.{next-word, no-word, wait-on, wait-acknowledges, wait-stop, wait-end}
 use Rattle.machine.proofs.runs.wait_accepted.Statement.{statement}
 use Rattle.machine.proofs.runs.wait_accepted.Tie as tie
 
 abbrev Inv-loop : tie.InvT-loop
-Inv-loop image₀ all source words steps₀ made₀ image steps made =
-    (steps ≤ length words) × (made ≤ steps) × (length image ≡ length image₀)
+Inv-loop image₀ all source words done₀ made₀ image done made =
+    (done ≤ length words) × (made ≤ done) × (length image ≡ length image₀)
     × (waitReport source (state image₀) 0 0 answer.NoStep (waitEvents (state image₀) (listOf all) source (stepsOf words))
-    ≡ waitReport source (state image) steps made answer.NoStep (waitEvents (state image) (listOf all) source (stepsOf (drop steps words))))
+    ≡ waitReport source (state image) done made answer.NoStep (waitEvents (state image) (listOf all) source (stepsOf (drop done words))))
 
 abbrev μ-loop : tie.MeasureT-loop
-μ-loop image₀ all source words steps₀ made₀ image steps made = length words - steps
+μ-loop image₀ all source words done₀ made₀ image done made = length words - done
 
 loop-holds : tie.Need-loop-holds Inv-loop μ-loop
 loop-holds c = (omega arith, omega arith, refl, refl)
@@ -45,8 +45,8 @@ verdict-of-requires c κs = search needs
 enum-told : tie.Need-enum-told Inv-loop μ-loop
 enum-told c = search needs
 
-add-steps : tie.Need-add-steps Inv-loop μ-loop
-add-steps c = search needs
+add-done : tie.Need-add-done Inv-loop μ-loop
+add-done c = search needs
 
 arbitrations-requires : tie.Need-arbitrations-requires Inv-loop μ-loop
 arbitrations-requires c κs = search needs
@@ -66,7 +66,7 @@ returns c =
     let l = d .before .before .before .before .before in
     let s = l .before .before .before in
     rw (c .before .before .arbitrations .ensures) (sym (l .loop .inv .3
-    ∙ wait-acknowledged
+    ∙ wait-acknowledges
     (next-word _ _ (l .loop .inv .2 ∙ s .pre .0) (s .pre .1) (d .before .before .before .before .loop-test .taken) (d .before .before .decode .ensures) (d .act .ensures))
     _ _ _ _ (sym (c .before .before .before .before .before .verdict-of .ensures) ∙ c .before .before .before .enum-told .given .1)
     (sym (c .before .acknowledged .ensures) ∙ c .if1 .taken)))
@@ -125,7 +125,7 @@ wait-accepted-spec =
     act-requires
     verdict-of-requires
     enum-told
-    add-steps
+    add-done
     arbitrations-requires
     add-made
     acknowledged-requires
