@@ -12,6 +12,6 @@ pub mod Return
 pub mod Steps
 pub mod Runs
 pub mod Answers
+pub mod Waiting
 pub mod Promises
 pub mod Examples
-pub mod Waiting

@@ -176,6 +176,20 @@ pub fn twelve(last: Channel, count: usize) -> Channels
     }
 }
 
+// External channels 0 and 1 pending and unmasked, levels 0 and 1, CPL 7, interrupts enabled.
+pub fn two_pending() -> [u8; IMAGE_LENGTH]
+    ensures { λ m. ⌜ m ≡ interruptsOf 0x97 0x00 0x03 0x03 0xFC ⌝ }
+{
+    interrupts(0x97, 0x00, 0x03, 0x03, 0xFC)
+}
+
+// Nested mode, HL6 set, external channel 2 pending: a falling edge of pin 1 or of NMI, the watchdog, an arbitration and a return each change bytes.
+pub fn eager() -> [u8; IMAGE_LENGTH]
+    ensures { λ m. ⌜ m ≡ set (interruptsOf 0x9F 0x40 0x04 0xFF 0xFC) 246 0x44 ⌝ }
+{
+    with(interrupts(0x9F, 0x40, 0x04, 0xFF, 0xFC), EIVR, 0x44)
+}
+
 // No record.
 pub fn none() -> Channels
     ensures { λ l. ⌜ l ≡ listBy (sameItems (usualOf 9)) 0 ⌝ }

@@ -13,6 +13,7 @@ use samples::reset_word;
 use samples::return_word;
 use samples::single;
 use samples::twelve;
+use samples::two_pending;
 use samples::unknown_word;
 use samples::usual;
 use samples::watchdog_word;
@@ -23,11 +24,6 @@ use samples::write_word;
 use steps::wait;
 
 // ---- images
-
-// External channels 0 and 1 pending and unmasked, levels 0 and 1, CPL 7, interrupts enabled.
-fn two_pending() -> [u8; IMAGE_LENGTH] {
-    interrupts(0x97, 0x00, 0x03, 0x03, 0xFC)
-}
 
 // One record on page 9, which PPR selects: IVR 60h, data 5Ah; the pair at R16 and R17; interrupts enabled, CPL 7.
 fn recorded(idcr: u8, dcpr: u8, address: u8, count: u8) -> [u8; IMAGE_LENGTH] {
