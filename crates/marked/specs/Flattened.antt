@@ -2,6 +2,6 @@
 use Rattle.rules.specs.Answers.{Told, tell}
 use Rattle.marked.specs.declared.compare.Flat.{Flat}
 
--- the same as document 01's
+-- as the rules' record of them
 abbrev pub toldBy : Flat → Told
 toldBy f = tell (f .number) (f .first) (f .second) (f .third)

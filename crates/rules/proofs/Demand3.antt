@@ -5,7 +5,8 @@ use mathlib.Core.List.{List, [], _∷_}
 use mathlib.Core.Bool.{Bool, true, _||_}
 use Prim.Native.Nat.{ℕ, zero, suc, _+_, _<_}
 use native.Mathlib.Omega.{arith}
-use lib.ListN.{take}
+use lib.ListN.{length, take}
+use lib.Seq.{take-length}
 use Rattle.rules.specs.declared.Channel.{Channel}
 use Rattle.rules.specs.declared.Step.{Step}
 use Rattle.rules.specs.Image.{Image, state}
@@ -54,4 +55,7 @@ module _ (cs : List Channel) (s : ℕ) (r : ℕ → Bool) where
 
 -- ours is acknowledged by the arbitration H + E + 1 at the latest, and pending until then
 pub demand3 : Demand3
-demand3 m cs s a xs c n = wait cs s (rival m cs s) xs m a (λ k h. refl) c n
+demand3 m cs xs s a c =
+    let es = history (state m) cs xs in
+    let each : (n : ℕ) → Both m cs s (rival m cs s) es n = wait cs s (rival m cs s) xs m a (λ k h. refl) c in
+    (each, rw (take-length es) at (each (length es) .1))

@@ -17,7 +17,7 @@ use Rattle.rules.specs.Outcomes.{outcome, verdictOf, refuses}
 use Rattle.rules.specs.Sources.{pending}
 use Rattle.rules.specs.Steps.{stepOf}
 use Rattle.rules.specs.Runs.{Event, history, stateAfter, eventRefused, oneIf, stepsDone, runEvents, lastAnswer, runReport, runOf, acknowledges, eventAcknowledges, acknowledgedIn, arbitrationsIn, isArbitration, anyEvent, counted, until, waitEvents, waitedIf, waitReport, waitVerdict, waitIf, waitOf}
-use Rattle.rules.specs.Waiting.{H, E, Start, Calls, InTime, Kept, RunDemand3, Demand3Of, WaitWithin, WaitDemand3}
+use Rattle.rules.specs.Waiting.{H, E, Start, Calls, InTime, Demand3Of, RunDemand3, WaitWithin, WaitDemand3}
 use Rattle.rules.specs.Promises.{Does, Made, AllDo, eventsOf, CallsDemand3}
 use Rattle.rules.proofs.Bools.{not-both}
 use Rattle.rules.proofs.Told.{told-injective}
@@ -28,15 +28,9 @@ use Rattle.rules.proofs.AcknowledgedBy.{acknowledges-accepted}
 use Rattle.rules.proofs.WaitLaws.{wait-accepted, last-tells}
 use Rattle.rules.proofs.Demand3.{demand3}
 
-module _ (m : Image) (cs : List Channel) (s : ℕ) (a : Start m cs s) where
-  -- demand 3 of events that are a history
-  of-history : (es : List Event) (ys : List Step) → es ≡ history (state m) cs ys → Calls es
-      → (n : ℕ) → InTime s (H m cs s + E m cs s es) (take n es) × Kept m cs s (take n es)
-  of-history es ys e c n = rw e (demand3 m cs s a ys (rw e at c) n)
-
-  -- and of all of them
-  whole : (es : List Event) (ys : List Step) → es ≡ history (state m) cs ys → Calls es → InTime s (H m cs s + E m cs s es) es × Kept m cs s es
-  whole es ys e c = rw (take-length es) at (of-history es ys e c (length es))
+-- demand 3 of events that are a history
+of-history : (m : Image) (cs : List Channel) (es : List Event) (ys : List Step) → es ≡ history (state m) cs ys → Demand3Of m cs es (stateAfter (state m) es .image)
+of-history m cs es ys e = rw e (demand3 m cs ys)
 
 -- ---- calls one by one
 
@@ -52,10 +46,7 @@ made-history m cs (c ∷ made) d = rw (← did m cs c (d .0)) (ap (λ (es : List
 
 -- and demand 3 is true of them
 pub calls-demand3 : CallsDemand3
-calls-demand3 m cs made d s a c =
-    let es = eventsOf m made in
-    let e = made-history m cs made d in
-    (of-history m cs s a es (map (λ (x : Made). x .step) made) e c, whole m cs s a es (map (λ (x : Made). x .step) made) e c .1)
+calls-demand3 m cs made d = of-history m cs (eventsOf m made) (map (λ (c : Made). c .step) made) (made-history m cs made d)
 
 -- ---- a run
 
@@ -64,10 +55,8 @@ pub run-demand3 : RunDemand3
 unfolding runOf runReport
 run-demand3 m cs xs s a c =
     let p = run-prefix (state m) cs xs in
-    let es = runEvents (state m) cs xs in (
-      of-history m cs s a es (take (p .0) xs) (p .2) c,
-      rw (lent-accepted (state m) cs (a .calm .long) (a .calm .listed)) (whole m cs s a es (take (p .0) xs) (p .2) c .1),
-    )
+    let d = of-history m cs (runEvents (state m) cs xs) (take (p .0) xs) (p .2) s a c in
+    (d .0, rw (lent-accepted (state m) cs (a .calm .long) (a .calm .listed)) (d .1))
 
 -- ---- the wait report
 
@@ -105,35 +94,39 @@ module _ (s : ℕ) where
       go (verdict.Refused r) true e f = absurd (false≢true (ap refuses (sym (acknowledges-accepted s a f) ∙ e)))
       go (verdict.Refused r) false e f = q f
 
--- whatever source a wait report is for, demand 3 holds of every source that its steps start with
-any-source : (m : Image) (cs : List Channel) (source : ℕ) (xs : List Step) → Demand3Of m cs (waitEvents (state m) cs source xs) (waitOf (state m) cs source xs .state .image)
-unfolding waitOf waitReport
-any-source m cs source xs s a c =
-    let p = wait-prefix (state m) cs source xs in
-    let es = waitEvents (state m) cs source xs in (
-      of-history m cs s a es (take (p .0) xs) (p .2) c,
-      λ f. go (whole m cs s a es (take (p .0) xs) (p .2) c .1 f) (waitVerdict (state m) cs source),
-    )
-  where
-    go : pending (stateAfter (state m) (waitEvents (state m) cs source xs) .image) cs s ≡ true → (v : Verdict) → pending (waitIf v (state m) cs source xs .state .image) cs s ≡ true
-    go p verdict.Accepted = p
-    go p (verdict.Refused r) = a .waits
+module _ (m : Image) (cs : List Channel) (source : ℕ) (xs : List Step) where
+  -- its events
+  abbrev es : List Event
+  es = waitEvents (state m) cs source xs
 
-within-bound : (m : Image) (cs : List Channel) (s : ℕ) (xs : List Step) → Start m cs s → Calls (waitEvents (state m) cs s xs)
-    → WaitWithin (H m cs s + E m cs s (waitEvents (state m) cs s xs)) (waitOf (state m) cs s xs .answer) (pending (waitOf (state m) cs s xs .state .image) cs s)
-unfolding waitOf waitReport
-within-bound m cs s xs a c =
-    let es = waitEvents (state m) cs s xs in
-    let bound = H m cs s + E m cs s es in
-    let p = wait-prefix (state m) cs s xs in
-    let w = whole m cs s a es (take (p .0) xs) (p .2) c in
-    rw (wait-accepted (state m) cs s (lent-accepted (state m) cs (a .calm .long) (a .calm .listed)) (a .there))
-    (waited-within s bound (0 + stepsDone es) (0 + arbitrationsIn es) (lastAnswer answer.NoStep es) (pending (stateAfter (state m) es .image) cs s)
-    (λ t. until-bounded s bound (runEvents (state m) cs xs) 0 (omega arith) (λ n g. of-history m cs s a es (take (p .0) xs) (p .2) c n .0 (omega arith)))
-    (λ f.
-    let none : acknowledgedIn s es ≡ false = sym (last-tells s (runEvents (state m) cs xs) answer.NoStep refl) ∙ f in
-    let few : bound < arbitrationsIn es → ⊥ = λ g. not-both (acknowledgedIn s es) (w .0 g) none in
-    (omega arith, w .1 none)))
+  -- demand 3 of them, by what they leave
+  of-wait : Demand3Of m cs es (stateAfter (state m) es .image)
+  of-wait = let p = wait-prefix (state m) cs source xs in of-history m cs es (take (p .0) xs) (p .2)
+
+  -- and by what the wait report leaves, for every source
+  any-source : Demand3Of m cs es (waitOf (state m) cs source xs .state .image)
+  unfolding waitOf waitReport
+  any-source s a c = (of-wait s a c .0, λ f. go (of-wait s a c .1 f) (waitVerdict (state m) cs source))
+    where
+      go : pending (stateAfter (state m) es .image) cs s ≡ true → (v : Verdict) → pending (waitIf v (state m) cs source xs .state .image) cs s ≡ true
+      go p verdict.Accepted = p
+      go p (verdict.Refused r) = a .waits
+
+  -- of the source waited for, what it answers
+  within-bound : Start m cs source → Calls es
+      → WaitWithin (H m cs source + E m cs source es) (waitOf (state m) cs source xs .answer) (pending (waitOf (state m) cs source xs .state .image) cs source)
+  unfolding waitOf waitReport
+  within-bound a c =
+      let bound = H m cs source + E m cs source es in
+      let d = of-wait source a c in
+      let whole : InTime source bound es = rw (take-length es) at (d .0 (length es) .0) in
+      rw (wait-accepted (state m) cs source (lent-accepted (state m) cs (a .calm .long) (a .calm .listed)) (a .there))
+      (waited-within source bound (0 + stepsDone es) (0 + arbitrationsIn es) (lastAnswer answer.NoStep es) (pending (stateAfter (state m) es .image) cs source)
+      (λ t. until-bounded source bound (runEvents (state m) cs xs) 0 (omega arith) (λ n g. d .0 n .0 (omega arith)))
+      (λ f.
+      let none : acknowledgedIn source es ≡ false = sym (last-tells source (runEvents (state m) cs xs) answer.NoStep refl) ∙ f in
+      let few : bound < arbitrationsIn es → ⊥ = λ g. not-both (acknowledgedIn source es) (whole g) none in
+      (omega arith, d .1 none)))
 
 -- both
 pub wait-demand3 : WaitDemand3

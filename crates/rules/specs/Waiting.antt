@@ -117,22 +117,20 @@ InTime s bound es = bound < arbitrationsIn es → acknowledgedIn s es ≡ true
 abbrev pub Kept : Image → List Channel → ℕ → List Event → Type 0
 Kept m cs s es = acknowledgedIn s es ≡ false → pending (stateAfter (state m) es .image) cs s ≡ true
 
--- demand 3, one claim over every list of calls. Of the first n, for each n: where they have H + E + 1 arbitrations, with E over the whole list,
--- ours is acknowledged among them; and where it is not acknowledged among them, it is pending after them
-abbrev pub Demand3 : Type 0
-Demand3 =
-    (m : Image) (cs : List Channel) (s : ℕ) → Start m cs s
-    → (xs : List Step) → Calls (history (state m) cs xs)
-    → (n : ℕ) → InTime s (H m cs s + E m cs s (history (state m) cs xs)) (take n (history (state m) cs xs))
-    × Kept m cs s (take n (history (state m) cs xs))
-
--- what it says of the events es that leave `after`, where they are such a list: the same of the first n of them, for each n; and where ours is not
--- acknowledged among them all, it is pending in what they leave
+-- what demand 3 says of the events es from m that leave `after`, where they are such a list. Of the first n, for each n: where they have H + E + 1
+-- arbitrations, with E over all the events, ours is acknowledged among them; and where it is not acknowledged among them, it is pending after them.
+-- Where it is not acknowledged among all the events, it is pending in what they leave
 abbrev pub Demand3Of : Image → List Channel → List Event → Image → Type 0
 Demand3Of m cs es after =
     (s : ℕ) → Start m cs s → Calls es
     → ((n : ℕ) → InTime s (H m cs s + E m cs s es) (take n es) × Kept m cs s (take n es))
     × (acknowledgedIn s es ≡ false → pending after cs s ≡ true)
+
+-- demand 3, one claim over every list of calls
+abbrev pub Demand3 : Type 0
+Demand3 =
+    (m : Image) (cs : List Channel) (xs : List Step)
+    → Demand3Of m cs (history (state m) cs xs) (stateAfter (state m) (history (state m) cs xs) .image)
 
 -- of a run of xs that leaves `after`: of the steps that it did, and the refused one if there is one
 abbrev pub Demand3OfRun : Image → List Channel → List Step → Image → Type 0
