@@ -53,7 +53,7 @@ pub fn trigger(image: &mut [u8], all: Channels, event: Trigger) -> Answer
 }
 
 // Whether the top level is in service: any mark but 0.
-fn in_service(image: &[u8]) -> bool
+pub fn in_service(image: &[u8]) -> bool
     requires { ⌜ length (now image) ≡ imageLength ⌝ }
     ensures { λ s. ⌜ s ≡ inService (now (image .entry)) ⌝ }
 {

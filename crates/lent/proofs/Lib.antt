@@ -5,4 +5,5 @@ pub mod Bare
 pub mod One
 pub mod Two
 pub mod Shared
+pub mod SharedTwo
 pub mod While

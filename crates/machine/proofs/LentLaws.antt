@@ -1,28 +1,21 @@
--- What an accepted verdict on what is lent means, and a call's promise by its verdict. Assumes nothing.
-use mathlib.Core.Path.{_≡_, sym, ap, subst, _∙_}
-use mathlib.Core.Bool.{true}
+-- A call's promise by its verdict. Assumes nothing.
+use mathlib.Core.Path.{_≡_, sym, ap, _∙_}
 use mathlib.Core.List.{List}
 use Prim.Native.Nat.{ℕ}
-use lib.ListN.{length}
 use Rattle.rules.specs.declared.Channel.{Channel}
 use Rattle.rules.specs.declared.Step.{Step}
 use Rattle.rules.specs.declared.Answer.{Answer}
 use Rattle.rules.specs.declared.Verdict.{Verdict}
-use Rattle.rules.specs.declared.Verdict.the-variants as verdict
 use Rattle.rules.specs.declared.Ran.{Ran}
 use Rattle.rules.specs.declared.Waited.{Waited}
-use Rattle.rules.specs.Image.{Image, State, state, imageLength}
-use Rattle.rules.specs.Channels.{listOk}
+use Rattle.rules.specs.declared.Bounded.{Bounded}
+use Rattle.rules.specs.Image.{Image, state}
 use Rattle.rules.specs.Outcomes.{Outcome, outcome}
 use Rattle.rules.specs.Steps.{lentVerdict, actIf, stepOf, stepsOf}
-use Rattle.rules.specs.Runs.{RunOutcome, runOutcome, runIf, runOf, WaitOutcome, waitOutcome, waitVerdict, waitIf, waitOf}
-use Rattle.rules.specs.Answers.{told, toldRun, toldWait}
-use Rattle.rules.specs.Promises.{Does, Runs, Waits}
-use Rattle.rules.proofs.Refusals.{Lent, lent-means}
-
--- what is accepted has the image's length and a list within the rules
-pub lent-sound : (s : State) (cs : List Channel) → lentVerdict s cs ≡ verdict.Accepted → (length (s .image) ≡ imageLength) × (listOk cs ≡ true)
-lent-sound s cs v = subst (Lent s cs) v (lent-means s cs)
+use Rattle.rules.specs.Runs.{history, RunOutcome, runOutcome, runIf, runOf, WaitOutcome, waitOutcome, waitVerdict, waitIf, waitOf}
+use Rattle.rules.specs.Bounds.{boundIf, boundOf}
+use Rattle.rules.specs.Answers.{told, toldRun, toldWait, toldBound}
+use Rattle.rules.specs.Promises.{Does, Runs, Waits, Bounds}
 
 module _ (m m' : Image) (cs : List Channel) (v : Verdict) where
   -- a step that answers and leaves what the definition says by its verdict keeps the promise
@@ -46,3 +39,9 @@ module _ (m m' : Image) (cs : List Channel) (v : Verdict) where
   waits-by source ws w l e =
       let p = e ∙ ap (λ (u : Verdict). waitIf u (state m) cs source (stepsOf ws)) (sym l) in
       (ap (λ (o : WaitOutcome). toldWait (o .answer)) p, ap (λ (o : WaitOutcome). o .state .image) p)
+
+-- so does a bound, which leaves the image as it was
+pub bounds-by : (m : Image) (cs : List Channel) (v : Verdict) (source : ℕ) (ws : List ℕ) (b : Bounded) → waitVerdict (state m) cs source ≡ v
+    → b ≡ boundIf v m cs source (history (state m) cs (stepsOf ws)) → Bounds m cs source ws b
+unfolding boundOf
+bounds-by m cs v source ws b l e = ap toldBound (e ∙ ap (λ (u : Verdict). boundIf u m cs source (history (state m) cs (stepsOf ws))) (sym l))

@@ -1,12 +1,9 @@
 -- What the next step does to a run and to a wait report. Assumes nothing.
-use mathlib.Core.Path.{_≡_, refl, sym, _∙_}
+use mathlib.Core.Path.{_≡_, refl}
 use mathlib.Core.Bool.{Bool, true, false, cond, and-true, and-false}
 use mathlib.Core.List.{List, [], _∷_}
-use Prim.Native.Nat.{ℕ, _+_, _≤_, _<_}
+use Prim.Native.Nat.{ℕ, _+_}
 use native.Mathlib.Nat.{add-zero, add-assoc}
-use native.Mathlib.Numerals.{add-one}
-use lib.ListN.{length, getD, drop, drop-of-length-le}
-use lib.Seq.{drop-cons}
 use Rattle.rules.specs.declared.Channel.{Channel}
 use Rattle.rules.specs.declared.Step.{Step}
 use Rattle.rules.specs.declared.Answer.{Answer}
@@ -15,19 +12,12 @@ use Rattle.rules.specs.declared.Refusal.{Refusal}
 use Rattle.rules.specs.declared.Verdict.the-variants as verdict
 use Rattle.rules.specs.declared.Ran.the-variants as ran
 use Rattle.rules.specs.declared.Waited.the-variants as waited
-use Rattle.rules.specs.Image.{State, imageLength}
-use Rattle.rules.specs.Channels.{listOk}
+use Rattle.rules.specs.Image.{State}
 use Rattle.rules.specs.Outcomes.{outcome, verdictOf}
-use Rattle.rules.specs.Steps.{actOf, stepOf, decodeOf, stepsOf}
 use Rattle.rules.specs.Runs.{Event, history, stateAfter, oneIf, counted, until, runEvents, lastAnswer, runOutcome, runReport, acknowledges, isArbitration, waitEvents, waitOutcome, waitReport}
-use Rattle.rules.proofs.Refusals.{accepted-acts}
+use Rattle.dispatch.proofs.NextSteps.{Next}
 
 -- ---- no step left
-
--- after all of the words there is none
-pub no-word : (ws : List ℕ) (n : ℕ) → length ws ≤ n → stepsOf (drop n ws) ≡ []
-unfolding stepsOf
-no-word ws n h = rw (drop-of-length-le ws h)
 
 module _ (s : State) (cs : List Channel) {ys : List Step} (none : ys ≡ []) (n : ℕ) where
   -- a run is done
@@ -41,17 +31,6 @@ module _ (s : State) (cs : List Channel) {ys : List Step} (none : ys ≡ []) (n 
   wait-end source k = rw (none, add-zero)
 
 -- ---- a step left
-
--- the first of the steps ys is x; from the state s it answers a and leaves t, and the steps xs come after it
-pub record Next (s t : State) (cs : List Channel) (ys xs : List Step) (x : Step) (a : Answer) : Type 0 where
-  pub first : ys ≡ x ∷ xs
-  pub did : outcome a t ≡ stepOf s cs x
-
--- after n words, word n is the next step
-pub next-word : {s t : State} {cs : List Channel} (ws : List ℕ) (n : ℕ) {x : Step} {a : Answer} → length (s .image) ≡ imageLength → listOk cs ≡ true
-    → n < length ws → x ≡ decodeOf (getD ws n 0) → outcome a t ≡ actOf s cs x → Next s t cs (stepsOf (drop n ws)) (stepsOf (drop (n + 1) ws)) x a
-unfolding stepsOf
-next-word {s} {t} {cs} ws n {x} l ok h e d = record { first = rw (e, add-one, drop-cons ws n 0 h); did = d ∙ sym (accepted-acts s cs x l ok) }
 
 -- the last answer does not matter where it is accepted and acknowledges nothing
 last-free : (source : ℕ) (s : State) (n k : ℕ) (a : Answer) (es : List Event) → verdictOf a ≡ verdict.Accepted → acknowledges source a ≡ false

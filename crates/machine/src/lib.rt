@@ -1,10 +1,12 @@
-// The model with the channel list by value: the refusals of what is lent, the six steps, a step given as a word, runs and the wait report.
+// The model with the channel list by value: the refusals of what is lent, the six steps, a step given as a word, runs, the wait report and demand 3's bound.
 // Any image, any list and any step gets an answer.
-mod answers;
 mod runs;
-mod words;
 
+use bounds::bound_accepted;
+use dispatch::act;
+use dispatch::decode;
 use rules::Answer;
+use rules::Bounded;
 use rules::Channels;
 use rules::EXTERNALS;
 use rules::IMAGE_LENGTH;
@@ -14,16 +16,14 @@ use rules::Step;
 use rules::Trigger;
 use rules::Verdict;
 use rules::Waited;
-use runs::act;
 use runs::run_accepted;
 use runs::wait_accepted;
-use words::decode;
 ghost use mathlib.Core.Path.{_≡_};
 ghost use Rattle.rules.specs.Image.{state};
 ghost use Rattle.rules.specs.Channels.{listOf};
 ghost use Rattle.rules.specs.Steps.{lentVerdict};
 ghost use Rattle.rules.specs.Runs.{waitVerdict};
-ghost use Rattle.rules.specs.Promises.{Does, Reads, Writes, Triggers, Arbitrates, Returns, Resets, DoesWord, Runs, Waits};
+ghost use Rattle.rules.specs.Promises.{Does, Reads, Writes, Triggers, Arbitrates, Returns, Resets, DoesWord, Runs, Waits, Bounds};
 
 // What is lent: refused with 1, then with 2.
 fn lent_verdict(image: &[u8], all: Channels) -> Verdict
@@ -132,5 +132,15 @@ pub fn wait(image: &mut [u8], all: Channels, source: u32, words: &[u64]) -> Wait
     match wait_verdict(image, all, source) {
         Verdict::Accepted => wait_accepted(image, all, source, words),
         Verdict::Refused(r) => Waited::Refused(r),
+    }
+}
+
+// Demand 3's bound for a source over a list of steps: H, E and H + E + 1 where the premises hold, else the first that fails. The image and the steps are only read.
+pub fn bound(image: &[u8], all: Channels, source: u32, words: &[u64]) -> Bounded
+    ensures { λ b. ⌜ Bounds (now (image .entry)) (listOf all) source (now (words .entry)) b ⌝ }
+{
+    match wait_verdict(image, all, source) {
+        Verdict::Accepted => bound_accepted(image, all, source, words),
+        Verdict::Refused(r) => Bounded::Refused(r),
     }
 }

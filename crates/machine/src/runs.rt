@@ -1,13 +1,11 @@
-// Steps on an image and a list that are accepted.
-use crate::answers::acknowledged;
-use crate::answers::arbitrations;
-use crate::answers::verdict_of;
-use crate::words::decode;
+// Runs and wait reports on an image and a list that are accepted.
+use dispatch::act;
+use dispatch::arbitrations;
+use dispatch::decode;
+use dispatch::verdict_of;
 use rules::Answer;
 use rules::Channels;
 use rules::Ran;
-use rules::Refusal;
-use rules::Step;
 use rules::Verdict;
 use rules::Waited;
 ghost use mathlib.Core.Path.{_≡_};
@@ -15,25 +13,8 @@ ghost use mathlib.Core.Bool.{true};
 ghost use lib.ListN.{length};
 ghost use Rattle.rules.specs.Image.{imageLength, state};
 ghost use Rattle.rules.specs.Channels.{listOk, listOf};
-ghost use Rattle.rules.specs.Outcomes.{outcome};
-ghost use Rattle.rules.specs.Steps.{actOf, stepsOf};
-ghost use Rattle.rules.specs.Runs.{runOutcome, runReport, runEvents, waitOutcome, waitReport, waitEvents};
-
-// One step.
-pub(crate) fn act(image: &mut [u8], all: Channels, step: Step) -> Answer
-    requires { ⌜ (length (now image) ≡ imageLength) × (listOk (listOf all) ≡ true) ⌝ }
-    ensures { λ a. ⌜ outcome a (state (now (image .exit))) ≡ actOf (state (now (image .entry))) (listOf all) step ⌝ }
-{
-    match step {
-        Step::Read(register) => registers::read(image, all, register),
-        Step::Write(register, value) => registers::write(image, all, register, value),
-        Step::Trigger(event) => arbiter::trigger(image, all, event),
-        Step::Arbitrate => arbiter::arbitrate(image, all),
-        Step::Return => arbiter::return_from_interrupt(image),
-        Step::Reset => registers::reset(image),
-        Step::Unknown => Answer::Refused(Refusal::Kind),
-    }
-}
+ghost use Rattle.rules.specs.Steps.{stepsOf};
+ghost use Rattle.rules.specs.Runs.{runOutcome, runReport, runEvents, acknowledges, waitOutcome, waitReport, waitEvents};
 
 // The steps one after another, up to the first refused.
 pub(crate) fn run_accepted(image: &mut [u8], all: Channels, words: &[u64]) -> Ran
@@ -58,6 +39,32 @@ pub(crate) fn run_accepted(image: &mut [u8], all: Channels, words: &[u64]) -> Ra
         }
     }
     Ran::Done { steps, last }
+}
+
+// Whether an answer acknowledges a source: as an interrupt, not by DMA.
+fn acknowledged(a: Answer, source: u32) -> bool
+    ensures { λ b. ⌜ b ≡ acknowledges source a ⌝ }
+{
+    match a {
+        Answer::NoStep => false,
+        Answer::Byte(_) => false,
+        Answer::Written(_) => false,
+        Answer::Triggered(_, _) => false,
+        Answer::Nothing => false,
+        Answer::TopLevel => false,
+        Answer::Interrupt {
+            source: k,
+            level: _,
+            vector: _,
+        } => (k as u32) == source,
+        Answer::Transferred {
+            source: _,
+            ended: _,
+        } => false,
+        Answer::Returned => false,
+        Answer::Reset => false,
+        Answer::Refused(_) => false,
+    }
 }
 
 // The same up to the acknowledgement of a source, if there is one; every arbitration is counted that isn't refused.

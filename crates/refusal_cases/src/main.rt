@@ -1,4 +1,4 @@
-// Runs every kind of step, runs and wait reports on images of a wrong length and with channel lists outside the rules, and prints for each what it answers and whether
+// Runs every kind of step, runs, wait reports and bounds on images of a wrong length and with channel lists outside the rules, and prints for each what it answers and whether
 // every byte stayed. The last block has the same calls on an image and a list within the rules. The expected output, beside this program, is written from
 // document 01.
 use report::text;
@@ -65,7 +65,7 @@ fn end(m: [u8; LONGEST]) {
     }
 }
 
-// A step, a step by its word, or a run or a wait report of no step or of an unknown step and a reset.
+// A step, a step by its word, or a run, a wait report or a bound of no step or of an unknown step and a reset.
 enum Call {
     Step(Step),
     Word(u64),
@@ -73,6 +73,8 @@ enum Call {
     RunOfTwo,
     Wait(u32),
     WaitOfTwo(u32),
+    Bound(u32),
+    BoundOfTwo(u32),
 }
 
 fn answer_of(image: &mut [u8], all: Channels, step: Step) -> Answer {
@@ -97,6 +99,8 @@ fn make(image: &mut [u8], all: Channels, c: Call) {
         Call::RunOfTwo => report::ran(machine::run(image, all, &two)),
         Call::Wait(source) => report::waited(machine::wait(image, all, source, &none)),
         Call::WaitOfTwo(source) => report::waited(machine::wait(image, all, source, &two)),
+        Call::Bound(source) => report::bounded(machine::bound(image, all, source, &none)),
+        Call::BoundOfTwo(source) => report::bounded(machine::bound(image, all, source, &two)),
     }
 }
 
@@ -189,6 +193,18 @@ fn runs(length: usize, all: Channels)
         length,
         all,
         Call::WaitOfTwo(99),
+    );
+    made(
+        b"bound for source 0, no step: ",
+        length,
+        all,
+        Call::Bound(0),
+    );
+    made(
+        b"bound for source 99, an unknown step and a reset: ",
+        length,
+        all,
+        Call::BoundOfTwo(99),
     );
 }
 

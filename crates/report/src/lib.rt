@@ -1,5 +1,6 @@
 // Answers and changed bytes in words, for the programs that run cases.
 use rules::Answer;
+use rules::Bounded;
 use rules::Effect;
 use rules::IMAGE_LENGTH;
 use rules::Ran;
@@ -118,11 +119,15 @@ pub fn answer(a: Answer) {
     }
 }
 
+fn at_step(index: usize) {
+    text(b" at step ");
+    number(index as u64);
+}
+
 // A refusal and its place in a run.
 fn refusal_at(r: Refusal, index: usize) {
     refusal(r);
-    text(b" at step ");
-    number(index as u64);
+    at_step(index);
 }
 
 // What a run answers.
@@ -163,6 +168,40 @@ pub fn waited(w: Waited) {
         Waited::Acknowledged { arbitrations } => {
             text(b"acknowledged");
             counted(arbitrations);
+        }
+    }
+}
+
+// What is answered of demand 3's bound.
+pub fn bounded(b: Bounded) {
+    match b {
+        Bounded::Refused(e) => refusal(e),
+        Bounded::Nested => text(b"nested mode"),
+        Bounded::DmaEnabled => text(b"DMA enabled"),
+        Bounded::TopLevelEnabled => text(b"top level enabled"),
+        Bounded::TopLevelInService => text(b"top level in service"),
+        Bounded::NotPending => text(b"not pending"),
+        Bounded::Masked => text(b"masked"),
+        Bounded::LevelNotAbove => text(b"level not above the current one"),
+        Bounded::OtherStep { index } => {
+            text(b"no trigger, arbitration or return");
+            at_step(index);
+        }
+        Bounded::InterruptsDisabled { index } => {
+            text(b"arbitration with interrupts disabled");
+            at_step(index);
+        }
+        Bounded::Within {
+            outranking,
+            triggers,
+            arbitrations,
+        } => {
+            text(b"H ");
+            number(outranking as u64);
+            text(b", E ");
+            number(triggers as u64);
+            text(b", bound ");
+            number(arbitrations as u64);
         }
     }
 }

@@ -33,7 +33,7 @@ const POSITIONS: usize = EXTERNALS + MOST_RECORDS;
 const NO_RANK: u8 = 16;
 
 // The level of external channel k: its group's field of EIPLR, and k modulo 2.
-fn external_level(eiplr: u8, k: u8) -> u8
+pub fn external_level(eiplr: u8, k: u8) -> u8
     requires { ⌜ k < 8 ⌝ }
     ensures { λ l. ⌜ l ≡ externalLevel eiplr k ⌝ }
 {

@@ -20,6 +20,12 @@ pub one-le : (t : Bool) → oneIf t ≤ 1
 one-le true = omega arith
 one-le false = omega arith
 
+-- no more than there are
+pub count-le : (p : ℕ → Bool) (n : ℕ) → countBelow n p ≤ n
+unfolding countBelow
+count-le p zero = omega arith
+count-le p (suc n) = omega (arith, one-le (p n), count-le p n)
+
 -- the tests agree everywhere
 pub count-same : (p q : ℕ → Bool) (n : ℕ) → ((k : ℕ) → k < n → q k ≡ p k) → countBelow n q ≡ countBelow n p
 unfolding countBelow
@@ -57,6 +63,11 @@ count-down p q w (suc n) l pw qw h = go (λ (g : w < n). count-down p q w n g pw
 
 abbrev counts : Image → List Channel → (ℕ → Bool) → ℕ → Bool
 counts m cs r k = pending m cs k && r k
+
+-- at most all of them
+pub pendingOf-le : (m : Image) (cs : List Channel) (r : ℕ → Bool) → pendingOf m cs r ≤ sources cs
+unfolding pendingOf
+pendingOf-le m cs r = count-le (counts m cs r) (sources cs)
 
 module _ (cs : List Channel) (m m' : Image) (r : ℕ → Bool) where
   counts-same : (k : ℕ) → pending m' cs k ≡ pending m cs k → counts m' cs r k ≡ counts m cs r k

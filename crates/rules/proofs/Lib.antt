@@ -35,5 +35,8 @@ pub mod Wait
 pub mod Demand3
 pub mod Rivals
 pub mod RunsAndWaits
+pub mod AnyBelow
+pub mod FirstFailing
+pub mod BoundLaws
 pub mod Tight
 pub mod ExamplesHold

@@ -1,6 +1,6 @@
 -- Document 01, "Refusal numbers": a refused step changes nothing, refusals 1 and 2 come before any other, and only a refusal is refused.
 -- Assumes nothing.
-use mathlib.Core.Path.{_≡_, refl, sym, ap, _∙_}
+use mathlib.Core.Path.{_≡_, refl, sym, ap, subst, _∙_}
 use mathlib.Core.Logic.{_≢_}
 use mathlib.Core.Bool.{Bool, true, false, false≢true, cond, _||_}
 use mathlib.Core.List.{List}
@@ -12,7 +12,6 @@ use borrow.Author.Tests.{eq-eqb, ne-eqb, eqb-true, eqb-false}
 use Rattle.rules.specs.declared.Channel.{Channel}
 use Rattle.rules.specs.declared.Place.{Place}
 use Rattle.rules.specs.declared.Place.the-variants.{At, Unmodelled}
-use Rattle.rules.specs.declared.Trigger.{Trigger}
 use Rattle.rules.specs.declared.Step.{Step}
 use Rattle.rules.specs.declared.Step.the-variants as step
 use Rattle.rules.specs.declared.Winner.{Winner}
@@ -74,6 +73,10 @@ lent-means s cs = go (eqb (length (s .image)) imageLength) (listOk cs) refl refl
     go true true e f = (eqb-true (length (s .image)) imageLength e, f)
     go true false e f = (eqb-true (length (s .image)) imageLength e, f)
     go false l e f = eqb-false (length (s .image)) imageLength e
+
+-- what is accepted has the image's length and a list within the rules
+pub lent-sound : (s : State) (cs : List Channel) → lentVerdict s cs ≡ verdict.Accepted → (length (s .image) ≡ imageLength) × (listOk cs ≡ true)
+lent-sound s cs v = subst (Lent s cs) v (lent-means s cs)
 
 -- ---- the rules below: what they refuse changes nothing
 

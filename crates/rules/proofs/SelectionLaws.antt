@@ -115,7 +115,8 @@ module _ (cs : List Channel) where
 
 -- ---- what is selected is there
 
-selectIf-some : (b : Bool) (k s : ℕ) → selectIf b k ≡ some s → k ≡ s
+-- what a test selects is its source
+pub selectIf-some : (b : Bool) (k s : ℕ) → selectIf b k ≡ some s → k ≡ s
 selectIf-some true k s e = cc
 selectIf-some false k s e = impossible (cc)
 

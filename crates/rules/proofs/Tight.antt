@@ -1,6 +1,6 @@
 -- Demand 3's premises can be met, and its bound is met exactly: a list of calls that needs H + E + 1 arbitrations. What must not count is there too:
 -- a masked source above ours and one that ours outranks, both pending and triggered, a trigger of ours, and a refused one. Assumes nothing.
-use mathlib.Core.Path.{_≡_, refl, sym, ap, _∙_}
+use mathlib.Core.Path.{_≡_, refl, sym, ap, ap₂, _∙_}
 use mathlib.Core.Bool.{Bool, true, false, not, _&&_, _||_}
 use mathlib.Core.List.{List, [], _∷_, _++_}
 use Prim.Native.Nat.{ℕ, _+_}
@@ -13,6 +13,7 @@ use Rattle.rules.specs.declared.Step.{Step}
 use Rattle.rules.specs.declared.Step.the-variants as step
 use Rattle.rules.specs.declared.Trigger.the-variants as trigger
 use Rattle.rules.specs.declared.Waited.the-variants as waited
+use Rattle.rules.specs.declared.Bounded.the-variants as bounded
 use Rattle.rules.specs.Image.{Image, state, has, IEN, pageByte, put, CICR, EIPR, EIMR, EIPLR}
 use Rattle.rules.specs.Channels.{idcrByte, ivrByte, dcprByte, daprByte, dataByte, recordsOk, member, distinct, allBytes, listOk}
 use Rattle.rules.specs.Sources.{sources, pendingBit, pending, unmasked, dmaEnabled, externalLevel, level}
@@ -23,8 +24,10 @@ use Rattle.rules.specs.Return.{returned, returnOf}
 use Rattle.rules.specs.Steps.{lentVerdict, actOf, stepOf}
 use Rattle.rules.specs.Runs.{until, lastAnswer, stateAfter, waitEvents, waitReport, waitVerdict, waitOf, Event, anyEvent, counted, history, acknowledgedIn, arbitrationsIn, isArbitration}
 use Rattle.rules.specs.Waiting.{outranks, rival, countBelow, pendingOf, H, E, Start, isCall, Calls}
+use Rattle.rules.specs.Bounds.{boundOf}
 use Rattle.rules.specs.Examples.{image, channel, _↤_}
 use Rattle.rules.proofs.Bools.{and-l, and-r}
+use Rattle.rules.proofs.BoundLaws.{bound-given}
 
 -- CPL is 7, IEN 0 and TLIP 1. INTA0, the record and INTB0 are at level 0, INTA1 and INTB1 at level 1; all five are pending, and all but INTB0
 -- unmasked. Byte 240, which no rule reads, has what the record's IDCR has: where a record isn't there the definitions read that byte, so that a
@@ -101,6 +104,12 @@ pub tight : Start start channels ours × Calls events × (H start channels ours 
     × (arbitrationsIn events ≡ 5) × (acknowledgedIn ours events ≡ true)
 unfolding start image digit bit putBit pageByte put idcrByte ivrByte dcprByte daprByte dataByte recordsOk member distinct allBytes listOk sources pendingBit pending unmasked dmaEnabled externalLevel level triggerVerdict selects selectsTop sourceEffect raiseSource topEffect raiseTop fire triggerOf requestOf eligible isAt wonBy candidate first winnerOfKind winnerAtLevel winnerOf vectorOf cleared acknowledged granted topLevel arbitration arbitrateOf returned returnOf lentVerdict actOf stepOf history outranks rival countBelow pendingOf anyEvent counted
 tight = (starts, calls-by events refl, refl, refl, refl, refl, refl, refl)
+
+-- the bound that is answered for it is H + E + 1
+pub bound-tight : boundOf (state start) channels ours steps ≡ bounded.Within 2 2 5
+bound-tight =
+    bound-given start channels ours steps (tight .0) (tight .1)
+    ∙ ap₂ (λ (h e : ℕ). bounded.Within h e (h + e + 1)) (tight .2) (tight .3)
 
 -- the same as a wait report, without the refused request, which would end it: acknowledged with H + E + 1 arbitrations
 abbrev pub accepted : List Step

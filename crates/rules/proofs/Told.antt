@@ -16,9 +16,11 @@ use Rattle.rules.specs.declared.Ran.{Ran}
 use Rattle.rules.specs.declared.Ran.the-variants as ran
 use Rattle.rules.specs.declared.Waited.{Waited}
 use Rattle.rules.specs.declared.Waited.the-variants as waited
+use Rattle.rules.specs.declared.Bounded.{Bounded}
+use Rattle.rules.specs.declared.Bounded.the-variants as bounded
 use Rattle.rules.specs.Registers.{losses}
 use Rattle.rules.specs.Runs.{oneIf}
-use Rattle.rules.specs.Answers.{refusalNumber, toldVerdict, effectNumber, Told, told, ToldRun, toldRun, toldWait}
+use Rattle.rules.specs.Answers.{refusalNumber, toldVerdict, effectNumber, Told, told, ToldRun, toldRun, toldWait, toldBound}
 
 -- a function with a way back is injective
 injective : {A B : Type 0} (f : A → B) (g : B → A) → ((a : A) → g (f a) ≡ a) → (a b : A) → f a ≡ f b → a ≡ b
@@ -146,3 +148,35 @@ waited-back (waited.Acknowledged k) = refl
 -- no two answers of a wait report are told alike
 pub told-wait-injective : (a b : Waited) → toldWait a ≡ toldWait b → a ≡ b
 told-wait-injective = injective toldWait waitedAt waited-back
+
+-- ---- the bound
+
+abbrev boundedAt : Told → Bounded
+boundedAt t =
+    cond (eqb (t .number) 0) (bounded.Refused (refusalAt (t .first)))
+    (cond (eqb (t .number) 1) bounded.Nested
+    (cond (eqb (t .number) 2) bounded.DmaEnabled
+    (cond (eqb (t .number) 3) bounded.TopLevelEnabled
+    (cond (eqb (t .number) 4) bounded.TopLevelInService
+    (cond (eqb (t .number) 5) bounded.NotPending
+    (cond (eqb (t .number) 6) bounded.Masked
+    (cond (eqb (t .number) 7) bounded.LevelNotAbove
+    (cond (eqb (t .number) 8) (bounded.OtherStep (t .first))
+    (cond (eqb (t .number) 9) (bounded.InterruptsDisabled (t .first)) (bounded.Within (t .first) (t .second) (t .third)))))))))))
+
+bounded-back : (b : Bounded) → boundedAt (toldBound b) ≡ b
+bounded-back (bounded.Refused r) = ap bounded.Refused (refusal-back r)
+bounded-back bounded.Nested = refl
+bounded-back bounded.DmaEnabled = refl
+bounded-back bounded.TopLevelEnabled = refl
+bounded-back bounded.TopLevelInService = refl
+bounded-back bounded.NotPending = refl
+bounded-back bounded.Masked = refl
+bounded-back bounded.LevelNotAbove = refl
+bounded-back (bounded.OtherStep i) = refl
+bounded-back (bounded.InterruptsDisabled i) = refl
+bounded-back (bounded.Within h e k) = refl
+
+-- no two answers of a bound are told alike
+pub told-bound-injective : (a b : Bounded) → toldBound a ≡ toldBound b → a ≡ b
+told-bound-injective = injective toldBound boundedAt bounded-back

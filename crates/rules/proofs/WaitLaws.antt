@@ -5,7 +5,8 @@ use mathlib.Core.List.{List, [], _∷_, _++_}
 use Prim.Native.Nat.{ℕ, _+_, _≤_, _<_}
 use native.Mathlib.Nat.{zero-add}
 use lib.ListN.{take}
-use borrow.Author.Tests.{lt-ltb, le-ltb}
+use lib.Dec.{ltb}
+use borrow.Author.Tests.{ltb-true, lt-ltb, le-ltb}
 use Rattle.rules.specs.declared.Channel.{Channel}
 use Rattle.rules.specs.declared.Step.{Step}
 use Rattle.rules.specs.declared.Answer.{Answer}
@@ -54,6 +55,16 @@ module _ (s : State) (cs : List Channel) (source : ℕ) where
       go : (u : Verdict) → sourceIf u cs source ≡ verdict.Accepted → u ≡ verdict.Accepted
       go verdict.Accepted e = refl
       go (verdict.Refused r) e = e
+
+  -- and with a source that is there
+  pub accepted-source : waitVerdict s cs source ≡ verdict.Accepted → source < sources cs
+  unfolding waitVerdict
+  accepted-source v = go (lentVerdict s cs) (ltb source (sources cs)) refl v
+    where
+      go : (u : Verdict) (b : Bool) → ltb source (sources cs) ≡ b → sourceIf u cs source ≡ verdict.Accepted → source < sources cs
+      go verdict.Accepted true d e = ltb-true source (sources cs) d
+      go verdict.Accepted false d e = impossible (cc)
+      go (verdict.Refused r) b d e = impossible (cc)
 
   -- otherwise the steps are done
   pub wait-accepted : lentVerdict s cs ≡ verdict.Accepted → source < sources cs → waitVerdict s cs source ≡ verdict.Accepted

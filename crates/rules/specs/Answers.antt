@@ -14,6 +14,8 @@ use Rattle.rules.specs.declared.Ran.{Ran}
 use Rattle.rules.specs.declared.Ran.the-variants as ran
 use Rattle.rules.specs.declared.Waited.{Waited}
 use Rattle.rules.specs.declared.Waited.the-variants as waited
+use Rattle.rules.specs.declared.Bounded.{Bounded}
+use Rattle.rules.specs.declared.Bounded.the-variants as bounded
 use Rattle.rules.specs.Runs.{oneIf}
 
 -- the refusal numbers
@@ -81,3 +83,17 @@ toldWait (waited.Refused r) = tell 0 (refusalNumber r) 0 0
 toldWait (waited.RefusedAt r i k) = tell 1 (refusalNumber r) i k
 toldWait (waited.Ended k) = tell 2 k 0 0
 toldWait (waited.Acknowledged k) = tell 3 k 0 0
+
+-- of demand 3's bound: a refusal's number; the index of a step; H, E and the bound
+abbrev pub toldBound : Bounded → Told
+toldBound (bounded.Refused r) = tell 0 (refusalNumber r) 0 0
+toldBound bounded.Nested = tell 1 0 0 0
+toldBound bounded.DmaEnabled = tell 2 0 0 0
+toldBound bounded.TopLevelEnabled = tell 3 0 0 0
+toldBound bounded.TopLevelInService = tell 4 0 0 0
+toldBound bounded.NotPending = tell 5 0 0 0
+toldBound bounded.Masked = tell 6 0 0 0
+toldBound bounded.LevelNotAbove = tell 7 0 0 0
+toldBound (bounded.OtherStep i) = tell 8 i 0 0
+toldBound (bounded.InterruptsDisabled i) = tell 9 i 0 0
+toldBound (bounded.Within h e k) = tell 10 h e k

@@ -13,5 +13,6 @@ pub mod Steps
 pub mod Runs
 pub mod Answers
 pub mod Waiting
+pub mod Bounds
 pub mod Promises
 pub mod Examples

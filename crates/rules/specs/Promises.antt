@@ -11,13 +11,16 @@ use Rattle.rules.specs.declared.Answer.{Answer}
 use Rattle.rules.specs.declared.Verdict.{Verdict}
 use Rattle.rules.specs.declared.Ran.{Ran}
 use Rattle.rules.specs.declared.Waited.{Waited}
+use Rattle.rules.specs.declared.Bounded.{Bounded}
 use Rattle.rules.specs.Image.{Image, state}
 use Rattle.rules.specs.Registers.{viewOf, viewVerdict}
 use Rattle.rules.specs.Outcomes.{outcome}
+use Rattle.rules.specs.Sources.{pending}
 use Rattle.rules.specs.Steps.{stepOf, decodeOf, stepsOf}
 use Rattle.rules.specs.Runs.{Event, stateAfter, runOf, waitOf}
 use Rattle.rules.specs.Waiting.{Demand3Of}
-use Rattle.rules.specs.Answers.{told, toldVerdict, toldRun, toldWait}
+use Rattle.rules.specs.Bounds.{boundOf, WaitKeeps}
+use Rattle.rules.specs.Answers.{told, toldVerdict, toldRun, toldWait, toldBound}
 
 -- one step answers a and leaves `after`
 abbrev pub Does : Image → List Channel → Step → Answer → Image → Type 0
@@ -61,6 +64,16 @@ abbrev pub Waits : Image → List Channel → ℕ → List ℕ → Waited → Im
 Waits before cs source words w after =
     (toldWait w ≡ toldWait (waitOf (state before) cs source (stepsOf words) .answer))
     × (after ≡ waitOf (state before) cs source (stepsOf words) .state .image)
+
+-- demand 3's bound for a source over a list of words; the image is only read
+abbrev pub Bounds : Image → List Channel → ℕ → List ℕ → Bounded → Type 0
+Bounds before cs source words b = toldBound b ≡ toldBound (boundOf (state before) cs source (stepsOf words))
+
+-- what it says of a wait report on the same image, list, source and words
+abbrev pub BoundWaits : Type 0
+BoundWaits =
+    (m : Image) (cs : List Channel) (source : ℕ) (words : List ℕ) (b : Bounded) (w : Waited) (after : Image)
+    → Bounds m cs source words b → Waits m cs source words w after → WaitKeeps b w (pending after cs source)
 
 -- ---- calls one after another: each gets the image that the call before it left, and the same channel list
 

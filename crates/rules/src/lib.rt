@@ -196,3 +196,27 @@ pub enum Waited {
         arbitrations: usize,
     },
 }
+
+// What is answered of demand 3's wait: refused with 1, 2 or 4; or the first of demand 3's premises that fails, one on the steps with the index of the
+// step; or the unmasked sources outranking ours that are pending at the start (H), their triggers in the list (E), and the bound H + E + 1.
+pub enum Bounded {
+    Refused(Refusal),
+    Nested,
+    DmaEnabled,
+    TopLevelEnabled,
+    TopLevelInService,
+    NotPending,
+    Masked,
+    LevelNotAbove,
+    OtherStep {
+        index: usize,
+    },
+    InterruptsDisabled {
+        index: usize,
+    },
+    Within {
+        outranking: usize,
+        triggers: usize,
+        arbitrations: usize,
+    },
+}

@@ -1,4 +1,4 @@
--- What a promise says of the copy it says of the lent list, and what demand 3 says of a run and of a wait report that keep theirs. Assumes nothing.
+-- What a promise says of the copy it says of the lent list, and what demand 3 says of a run, a wait report and a bound that keep theirs. Assumes nothing.
 use mathlib.Core.Path.{_≡_, refl, sym, subst}
 use mathlib.Core.Bool.{Bool, true, false, cond}
 use mathlib.Core.List.{List}
@@ -10,6 +10,7 @@ use Rattle.rules.specs.declared.Step.{Step}
 use Rattle.rules.specs.declared.Answer.{Answer}
 use Rattle.rules.specs.declared.Ran.{Ran}
 use Rattle.rules.specs.declared.Waited.{Waited}
+use Rattle.rules.specs.declared.Bounded.{Bounded}
 use Rattle.rules.specs.declared.Verdict.{Verdict}
 use Rattle.rules.specs.declared.Verdict.the-variants as verdict
 use Rattle.rules.specs.declared.Refusal.the-variants as refusal
@@ -18,12 +19,14 @@ use Rattle.rules.specs.Channels.{mostRecords, listOf}
 use Rattle.rules.specs.Outcomes.{Outcome}
 use Rattle.rules.specs.Steps.{lentVerdict, stepOf, stepsOf}
 use Rattle.rules.specs.Runs.{RunOutcome, runOf, WaitOutcome, waitVerdict, waitOf}
-use Rattle.rules.specs.Answers.{told, toldRun, toldWait}
-use Rattle.rules.specs.Promises.{Does, Runs, Waits}
 use Rattle.rules.specs.Waiting.{Demand3OfRun, Demand3OfWait}
+use Rattle.rules.specs.Bounds.{boundOf, BoundSays}
+use Rattle.rules.specs.Answers.{told, toldRun, toldWait, toldBound}
+use Rattle.rules.specs.Promises.{Does, Runs, Waits, Bounds}
 use Rattle.rules.proofs.ListLaws.{list-long}
-use Rattle.rules.proofs.Told.{told-wait-injective}
+use Rattle.rules.proofs.Told.{told-wait-injective, told-bound-injective}
 use Rattle.rules.proofs.RunsAndWaits.{run-demand3, wait-demand3}
+use Rattle.rules.proofs.BoundLaws.{bound-says}
 use Rattle.lent.specs.Copies.{copyOf}
 use Rattle.lent.proofs.CopyLaws.{through}
 
@@ -52,6 +55,10 @@ module _ (s : State) (bs cs : List Channel) (h : mostRecords < length bs) (k : m
   wait-alike : (source : ℕ) (xs : List Step) → waitOf s bs source xs ≡ waitOf s cs source xs
   unfolding waitOf waitVerdict
   wait-alike source xs = rw (long-refused s bs h, long-refused s cs k)
+
+  bound-alike : (source : ℕ) (xs : List Step) → boundOf s bs source xs ≡ boundOf s cs source xs
+  unfolding boundOf waitVerdict
+  bound-alike source xs = rw (long-refused s bs h, long-refused s cs k)
 
 -- ---- from the copy to the lent list
 
@@ -82,3 +89,13 @@ module _ (m : Image) (cs : List Channel) where
         subst (λ (v : Waited). Demand3OfWait m cs source (stepsOf ws) v m') (sym (told-wait-injective w (o .answer) (p .0)))
             (subst (λ (n : Image). Demand3OfWait m cs source (stepsOf ws) (o .answer) n) (sym (p .1)) (wait-demand3 m cs source (stepsOf ws))),
       )
+
+  -- a bound, with what it says
+  pub lent-bounds : (source : ℕ) (ws : List ℕ) (b : Bounded) → Bounds m (listOf (copyOf cs)) source ws b
+      → Bounds m cs source ws b × BoundSays m cs source (stepsOf ws) b
+  lent-bounds source ws b promise =
+      let o : Bounded = boundOf (state m) cs source (stepsOf ws) in
+      let p : Bounds m cs source ws b =
+      subst (λ (o : Bounded). toldBound b ≡ toldBound o)
+      (through (λ (l : List Channel). boundOf (state m) l source (stepsOf ws)) (λ bs ds h k. bound-alike (state m) bs ds h k source (stepsOf ws)) cs) promise in
+      (p, subst (BoundSays m cs source (stepsOf ws)) (sym (told-bound-injective b o p)) (bound-says m cs source (stepsOf ws)))

@@ -2,14 +2,16 @@
 // document 01's number and every byte stays.
 use lent::copied;
 use rules::Answer;
+use rules::Bounded;
 use rules::Channel;
 use rules::Ran;
 use rules::Trigger;
 use rules::Verdict;
 use rules::Waited;
 ghost use Rattle.rules.specs.Steps.{stepsOf};
-ghost use Rattle.rules.specs.Promises.{Reads, Writes, Triggers, Arbitrates, Returns, Resets, DoesWord, Runs, Waits, Views, ViewRefuses};
+ghost use Rattle.rules.specs.Promises.{Reads, Writes, Triggers, Arbitrates, Returns, Resets, DoesWord, Runs, Waits, Bounds, Views, ViewRefuses};
 ghost use Rattle.rules.specs.Waiting.{Demand3OfRun, Demand3OfWait};
+ghost use Rattle.rules.specs.Bounds.{BoundSays};
 
 // Reads a register of the selected page or of the register file.
 pub fn read(image: &[u8], cs: &[Channel], register: u32) -> Answer
@@ -81,6 +83,14 @@ pub fn wait(image: &mut [u8], cs: &[Channel], source: u32, words: &[u64]) -> Wai
 {
     let all = copied(cs);
     machine::wait(image, all, source, words)
+}
+
+// Demand 3's bound for a source over steps given as words: H, E and H + E + 1 where its premises hold, else the first that fails; and that it is answered exactly then.
+pub fn bound(image: &[u8], cs: &[Channel], source: u32, words: &[u64]) -> Bounded
+    ensures { λ b. ⌜ Bounds (now (image .entry)) (now (cs .entry)) source (now (words .entry)) b × BoundSays (now (image .entry)) (now (cs .entry)) source (stepsOf (now (words .entry))) b ⌝ }
+{
+    let all = copied(cs);
+    machine::bound(image, all, source, words)
 }
 
 // The sixteen bytes of a page, as stored: a part of the image, empty where the view is refused.

@@ -1,8 +1,9 @@
-// One step, a run or a wait report on an image for the programs that run cases: it prints what it answers and which bytes it changes, and answers the image after it.
-// A single step is printed too, but not the words of a run. A read changes nothing and answers what it read.
+// One step, a run, a wait report or a bound on an image for the programs that run cases: it prints what it answers and which bytes it changes, and answers the image after it.
+// A single step is printed too, but not the words of a run. A read and a bound change nothing and answer what was answered.
 use report::number;
 use report::text;
 use rules::Answer;
+use rules::Bounded;
 use rules::Channels;
 use rules::IMAGE_LENGTH;
 use rules::Step;
@@ -12,7 +13,7 @@ ghost use Rattle.rules.specs.Channels.{listOf};
 ghost use Rattle.rules.specs.Image.{state};
 ghost use Rattle.rules.specs.Steps.{stepOf, decodeOf, stepsOf};
 ghost use Rattle.rules.specs.Runs.{runOf, waitOf};
-ghost use Rattle.rules.specs.Promises.{Reads};
+ghost use Rattle.rules.specs.Promises.{Reads, Bounds};
 
 // A read: the image is shared.
 pub fn read(image: [u8; IMAGE_LENGTH], all: Channels, register: u32) -> Answer
@@ -160,4 +161,17 @@ pub fn wait(
     report::changes(image, after);
     text(b"\n");
     after
+}
+
+// Demand 3's bound for a source over words: the image is shared.
+pub fn bound(image: [u8; IMAGE_LENGTH], all: Channels, source: u32, words: &[u64]) -> Bounded
+    ensures { λ b. ⌜ Bounds image (listOf all) source (now (words .entry)) b ⌝ }
+{
+    text(b"bound for source ");
+    number(source as u64);
+    text(b": ");
+    let b = machine::bound(&image, all, source, words);
+    report::bounded(b);
+    text(b"\n");
+    b
 }

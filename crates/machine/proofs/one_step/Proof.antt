@@ -1,7 +1,8 @@
 -- Where what is lent is accepted the step is done, and else it is refused; the definition goes by the same verdict.
 use mathlib.Core.Path.{refl, sym, _∙_}
 use borrow.Author.Needs.{needs}
-use Rattle.machine.proofs.LentLaws.{lent-sound, does-by}
+use Rattle.rules.proofs.Refusals.{lent-sound}
+use Rattle.machine.proofs.LentLaws.{does-by}
 use Rattle.machine.proofs.one_step.Statement.{statement}
 use Rattle.machine.proofs.one_step.Tie as tie
 

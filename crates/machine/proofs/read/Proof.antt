@@ -6,7 +6,8 @@ use Rattle.rules.specs.declared.Answer.{Answer}
 use Rattle.rules.specs.Image.{state}
 use Rattle.rules.specs.Outcomes.{outcome}
 use Rattle.rules.specs.Steps.{actOf}
-use Rattle.machine.proofs.LentLaws.{lent-sound, does-by}
+use Rattle.rules.proofs.Refusals.{lent-sound}
+use Rattle.machine.proofs.LentLaws.{does-by}
 use Rattle.machine.proofs.read.Statement.{statement}
 use Rattle.machine.proofs.read.Tie as tie
 

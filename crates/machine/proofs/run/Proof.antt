@@ -1,7 +1,8 @@
 -- Where what is lent is accepted the steps are run, and else the run is refused; the definition goes by the same verdict.
 use mathlib.Core.Path.{refl, sym, _∙_}
 use borrow.Author.Needs.{needs}
-use Rattle.machine.proofs.LentLaws.{lent-sound, runs-by}
+use Rattle.rules.proofs.Refusals.{lent-sound}
+use Rattle.machine.proofs.LentLaws.{runs-by}
 use Rattle.machine.proofs.run.Statement.{statement}
 use Rattle.machine.proofs.run.Tie as tie
 

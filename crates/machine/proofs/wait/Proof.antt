@@ -2,7 +2,8 @@
 use mathlib.Core.Path.{refl, sym, _∙_}
 use borrow.Author.Needs.{needs}
 use Rattle.rules.proofs.WaitLaws.{accepted-lent}
-use Rattle.machine.proofs.LentLaws.{lent-sound, waits-by}
+use Rattle.rules.proofs.Refusals.{lent-sound}
+use Rattle.machine.proofs.LentLaws.{waits-by}
 use Rattle.machine.proofs.wait.Statement.{statement}
 use Rattle.machine.proofs.wait.Tie as tie
 

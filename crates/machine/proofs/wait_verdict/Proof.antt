@@ -14,8 +14,8 @@ use Rattle.rules.specs.Sources.{sources}
 use Rattle.rules.specs.Steps.{lentVerdict}
 use Rattle.rules.proofs.Channels as S
 use Rattle.rules.proofs.WaitLaws.{lent-first, source-next, wait-accepted}
+use Rattle.rules.proofs.Refusals.{lent-sound}
 use Rattle.channels.proofs.ItemLaws.{count-short, list-count}
-use Rattle.machine.proofs.LentLaws.{lent-sound}
 use Rattle.machine.proofs.wait_verdict.Statement.{statement}
 use Rattle.machine.proofs.wait_verdict.Tie as tie
 

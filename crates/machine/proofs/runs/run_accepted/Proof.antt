@@ -11,7 +11,8 @@ use Rattle.rules.specs.Channels.{listOf}
 use Rattle.rules.specs.Outcomes.{verdictOf}
 use Rattle.rules.specs.Steps.{stepsOf}
 use Rattle.rules.specs.Runs.{runReport, runEvents}
-use Rattle.machine.proofs.RunSteps.{next-word, no-word, run-on, run-stop, run-end}
+use Rattle.dispatch.proofs.NextSteps.{next-word, no-word}
+use Rattle.machine.proofs.RunSteps.{run-on, run-stop, run-end}
 use Rattle.machine.proofs.runs.run_accepted.Statement.{statement}
 use Rattle.machine.proofs.runs.run_accepted.Tie as tie
 

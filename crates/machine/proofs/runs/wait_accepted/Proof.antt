@@ -11,7 +11,8 @@ use Rattle.rules.specs.Channels.{listOf}
 use Rattle.rules.specs.Steps.{stepsOf}
 use Rattle.rules.specs.Runs.{isArbitration, waitReport, waitEvents}
 use Rattle.rules.proofs.Counting.{one-le}
-use Rattle.machine.proofs.RunSteps.{next-word, no-word, wait-on, wait-acknowledges, wait-stop, wait-end}
+use Rattle.dispatch.proofs.NextSteps.{next-word, no-word}
+use Rattle.machine.proofs.RunSteps.{wait-on, wait-acknowledges, wait-stop, wait-end}
 use Rattle.machine.proofs.runs.wait_accepted.Statement.{statement}
 use Rattle.machine.proofs.runs.wait_accepted.Tie as tie
 

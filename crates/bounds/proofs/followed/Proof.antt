@@ -1,0 +1,171 @@
+-- The invariant: what is answered of all the words is what is answered of those that are left, after the steps done on the copy, with the triggers counted so far
+-- and the first arbitration with interrupts disabled, if there was one.
+use mathlib.Core.Path.{_≡_, sym, ap, _∙_}
+use Prim.Native.Nat.{_-_, _≤_}
+use native.Mathlib.Omega.{arith}
+use lib.ListN.{length, drop}
+use borrow.Author.Needs.{needs}
+use denote.Ref.{now}
+use borrow.Author.Tests.{lt-ltb, le-ltb}
+use Rattle.rules.specs.Image.{imageLength, state}
+use Rattle.rules.specs.Channels.{listOf}
+use Rattle.rules.specs.Steps.{stepsOf}
+use Rattle.rules.specs.Runs.{history, oneIf}
+use Rattle.rules.specs.Waiting.{rival, H}
+use Rattle.rules.proofs.Counting.{one-le, pendingOf-le}
+use Rattle.channels.proofs.ItemLaws.{count-short}
+use Rattle.sources.proofs.SourceReads.{source-count}
+use Rattle.bounds.specs.Followed.{rivalTriggered, followedFrom}
+use Rattle.dispatch.proofs.NextSteps.{next-word, no-word}
+use Rattle.bounds.proofs.FollowedSteps.{triggers-told, followed-start, followed-end, followed-other, followed-on}
+use Rattle.bounds.proofs.followed.Statement.{statement}
+use Rattle.bounds.proofs.followed.Tie as tie
+
+abbrev Inv-loop : tie.InvT-loop
+Inv-loop image all ours words copy₀ end disabled₀ triggers₀ done₀ copy disabled triggers done =
+    (done ≤ length words) × (triggers ≤ done) × (length copy ≡ imageLength)
+    × (followedFrom (rival image (listOf all) ours) (H image (listOf all) ours) end 0 end 0 (history (state image) (listOf all) (stepsOf words))
+    ≡ followedFrom (rival image (listOf all) ours) (H image (listOf all) ours) end done disabled triggers (history (state copy) (listOf all) (stepsOf (drop done words))))
+
+abbrev μ-loop : tie.MeasureT-loop
+μ-loop image all ours words copy₀ end disabled₀ triggers₀ done₀ copy disabled triggers done = length words - done
+
+-- a step is counted once at most
+counted-one : (c : tie.After-rival-trigger Inv-loop μ-loop) → c .rival-trigger .result ≤ 1
+counted-one c =
+    let d = c .before .before .before .before .before in
+    let s = d .before .before .before .before .before .before .before .before .before .before in
+    omega (arith, c .rival-trigger .ensures, one-le (rivalTriggered (now (s .args .image)) (listOf (s .args .all)) (s .args .ours) (d .before .before .before .decode .result) (d .act .result)))
+
+-- there are twenty sources at most
+few-rivals : (c : tie.After-pending-rivals Inv-loop μ-loop) → c .pending-rivals .result ≤ 20
+few-rivals c =
+    let s = c .before .before .before .before .before .before .before in
+    omega (
+      arith,
+      c .pending-rivals .ensures,
+      pendingOf-le (now (s .args .image)) (listOf (s .args .all)) (rival (now (s .args .image)) (listOf (s .args .all)) (s .args .ours)),
+      source-count _ (s .good .1 .0) (s .pre .1),
+      count-short _ (s .good .1 .0) (s .pre .1),
+    )
+
+copy-of-requires : tie.Need-copy-of-requires Inv-loop μ-loop
+copy-of-requires c κs = search needs
+
+loop-holds : tie.Need-loop-holds Inv-loop μ-loop
+loop-holds c = (omega arith, omega arith, search needs, rw (c .copy-of .ensures))
+
+mul-decode : tie.Need-mul-decode Inv-loop μ-loop
+mul-decode c = search needs
+
+shared-slice-read-decode : tie.Need-shared-slice-read-decode Inv-loop μ-loop
+shared-slice-read-decode c = search needs
+
+decode-requires : tie.Need-decode-requires Inv-loop μ-loop
+decode-requires c κs = search needs
+
+array-read-has-bit : tie.Need-array-read-has-bit Inv-loop μ-loop
+array-read-has-bit c = search needs
+
+has-bit-requires : tie.Need-has-bit-requires Inv-loop μ-loop
+has-bit-requires c κs = search needs
+
+slice-aggregate-act : tie.Need-slice-aggregate-act Inv-loop μ-loop
+slice-aggregate-act c = search needs
+
+act-requires : tie.Need-act-requires Inv-loop μ-loop
+act-requires c κs = search needs
+
+other-step-requires : tie.Need-other-step-requires Inv-loop μ-loop
+other-step-requires c κs = search needs
+
+returns : tie.Need-returns Inv-loop μ-loop
+returns c =
+    let d = c .before .before .before in
+    let l = d .before .before .before .before .before .before in
+    let i = l .loop .inv in
+    let s = l .before .before .before .before in
+    sym (followed-start _ _ _ _ _
+    ∙ i .3
+    ∙ followed-other _ _ _ _ _
+    (next-word _ _ (i .2) (s .pre .1) (d .before .before .before .before .before .loop-test .taken) (d .before .before .before .decode .ensures) (d .act .ensures))
+    _ (sym (c .before .other-step .ensures) ∙ c .if1 .taken))
+
+first-disabled-requires : tie.Need-first-disabled-requires Inv-loop μ-loop
+first-disabled-requires c κs = search needs
+
+rival-trigger-requires : tie.Need-rival-trigger-requires Inv-loop μ-loop
+rival-trigger-requires c κs = search needs
+
+add-triggers : tie.Need-add-triggers Inv-loop μ-loop
+add-triggers c = omega (arith, counted-one c)
+
+add-done : tie.Need-add-done Inv-loop μ-loop
+add-done c = search needs
+
+loop-less : tie.Need-loop-less Inv-loop μ-loop
+loop-less c = search needs
+
+loop-again : tie.Need-loop-again Inv-loop μ-loop
+loop-again c =
+    let d = c .before .before .before .before .before in
+    let l = d .before .before .before .before .before .before in
+    let i = l .loop .inv in
+    let s = l .before .before .before .before in
+    let e = c .rival-trigger .ensures ∙ ap oneIf (sym (triggers-told _ _ (s .pre .1) (rival _ _ _) _ _ _ (d .act .ensures))) in (
+      omega arith,
+      omega (arith, counted-one c),
+      search needs,
+      rw (c .before .first-disabled .ensures, d .before .before .has-bit .ensures, e) (i .3
+          ∙ followed-on _ _ _ _ _
+          (next-word _ _ (i .2) (s .pre .1) (d .before .before .before .before .before .loop-test .taken) (d .before .before .before .decode .ensures) (d .act .ensures))
+          _ (sym (c .before .before .before .other-step .ensures) ∙ c .before .before .if1 .left) (d .before .before .before .before .before .loop-test .taken)),
+    )
+
+returns-2 : tie.Need-returns-2 Inv-loop μ-loop
+returns-2 c =
+    let l = c .before .before in
+    sym (followed-start _ _ _ _ _ ∙ l .loop .inv .3 ∙ followed-end _ _ _ _ _ _ _ _ (no-word _ _ (c .before .loop-test .left)) ∙ rw (lt-ltb _ _ (c .if2 .taken)))
+
+pending-rivals-requires : tie.Need-pending-rivals-requires Inv-loop μ-loop
+pending-rivals-requires c κs = search needs
+
+add-t26 : tie.Need-add-t26 Inv-loop μ-loop
+add-t26 c = omega (arith, few-rivals c)
+
+add-t27 : tie.Need-add-t27 Inv-loop μ-loop
+add-t27 c = omega (arith, few-rivals c)
+
+returns-3 : tie.Need-returns-3 Inv-loop μ-loop
+returns-3 c =
+    let l = c .before .before .before in
+    sym (followed-start _ _ _ _ _ ∙ l .loop .inv .3 ∙ followed-end _ _ _ _ _ _ _ _ (no-word _ _ (c .before .before .loop-test .left)) ∙ rw (le-ltb _ _ (c .before .if2 .left), c .pending-rivals .ensures))
+
+pub followed-spec : {M : Type 1} → statement M
+followed-spec =
+    tie.close
+    (tie.spec
+    Inv-loop
+    μ-loop
+    copy-of-requires
+    loop-holds
+    mul-decode
+    shared-slice-read-decode
+    decode-requires
+    array-read-has-bit
+    has-bit-requires
+    slice-aggregate-act
+    act-requires
+    other-step-requires
+    returns
+    first-disabled-requires
+    rival-trigger-requires
+    add-triggers
+    add-done
+    loop-less
+    loop-again
+    returns-2
+    pending-rivals-requires
+    add-t26
+    add-t27
+    returns-3)

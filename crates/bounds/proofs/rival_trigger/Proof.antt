@@ -1,0 +1,77 @@
+-- The code makes the definition's three tests in the same order.
+use mathlib.Core.Path.{sym, _∙_}
+use native.Mathlib.Omega.{arith}
+use borrow.Author.Needs.{needs}
+use borrow.Author.Tests.{lt-ltb, le-ltb}
+use Rattle.rules.specs.Channels.{listOf}
+use Rattle.rules.specs.Sources.{sources}
+use Rattle.channels.proofs.ItemLaws.{count-short}
+use Rattle.sources.proofs.SourceReads.{source-count}
+use Rattle.bounds.proofs.rival_trigger.Statement.{statement}
+use Rattle.bounds.proofs.rival_trigger.Tie as tie
+
+selected-in-requires : tie.Need-selected-in-requires
+selected-in-requires c κs = search needs
+
+target-of-requires : tie.Need-target-of-requires
+target-of-requires c κs = search needs
+
+add-if2 : tie.Need-add-if2
+add-if2 c =
+    let s = c .before .before .before .before .before in
+    omega (arith, count-short _ (s .good .1 .0) (s .pre .1))
+
+is-rival-requires : tie.Need-is-rival-requires
+is-rival-requires c κs =
+    let s = c .before .before .before .before .before .before in
+    (s .pre .0, s .pre .1, s .pre .2, omega (arith, source-count _ (s .good .1 .0) (s .pre .1), c .if2 .taken))
+
+returns : tie.Need-returns
+returns c =
+    let d = c .before .before in
+    let t = d .before .before in
+    let s = t .before .before .before .before in
+    rw (
+      sym (t .before .before .selected-in .ensures) ∙ t .before .if1 .taken,
+      ← t .target-of .ensures,
+      lt-ltb (t .target-of .result) (sources (listOf (s .args .all))) (omega (arith, source-count _ (s .good .1 .0) (s .pre .1), d .if2 .taken)),
+      sym (c .before .is-rival .ensures) ∙ c .if3 .taken,
+    )
+
+returns-2 : tie.Need-returns-2
+returns-2 c =
+    let d = c .before .before in
+    let t = d .before .before in
+    let s = t .before .before .before .before in
+    rw (
+      sym (t .before .before .selected-in .ensures) ∙ t .before .if1 .taken,
+      ← t .target-of .ensures,
+      lt-ltb (t .target-of .result) (sources (listOf (s .args .all))) (omega (arith, source-count _ (s .good .1 .0) (s .pre .1), d .if2 .taken)),
+      sym (c .before .is-rival .ensures) ∙ c .if3 .left,
+    )
+
+returns-3 : tie.Need-returns-3
+returns-3 c =
+    let t = c .before .before in
+    let s = t .before .before .before .before in
+    rw (
+      sym (t .before .before .selected-in .ensures) ∙ t .before .if1 .taken,
+      ← t .target-of .ensures,
+      le-ltb (t .target-of .result) (sources (listOf (s .args .all))) (omega (arith, source-count _ (s .good .1 .0) (s .pre .1), c .if2 .left)),
+    )
+
+returns-4 : tie.Need-returns-4
+returns-4 c = rw (sym (c .before .selected-in .ensures) ∙ c .if1 .left)
+
+pub rival-trigger-spec : {M : Type 1} → statement M
+rival-trigger-spec =
+    tie.close
+    (tie.spec
+    selected-in-requires
+    target-of-requires
+    add-if2
+    is-rival-requires
+    returns
+    returns-2
+    returns-3
+    returns-4)

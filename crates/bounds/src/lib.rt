@@ -1,0 +1,157 @@
+// Demand 3's bound on an image and a list that are accepted, for a source that is there: the premises on the start, then the steps, followed on a copy of the image.
+mod copies;
+mod targets;
+
+use arbiter::in_service;
+use bits::has_bit;
+use copies::copy_of;
+use dispatch::act;
+use dispatch::arbitrations;
+use dispatch::decode;
+use dispatch::verdict_of;
+use rules::Answer;
+use rules::Bounded;
+use rules::CICR;
+use rules::Channels;
+use rules::EXTERNALS;
+use rules::IAM;
+use rules::IEN;
+use rules::NICR;
+use rules::Step;
+use rules::TLI;
+use rules::TLNM;
+use rules::Verdict;
+use sources::any_dma;
+use sources::is_pending;
+use sources::is_rival;
+use sources::is_unmasked;
+use sources::level_of;
+use sources::pending_rivals;
+use targets::is_call;
+use targets::selected_in;
+use targets::target_of;
+ghost use mathlib.Core.Path.{_≡_};
+ghost use mathlib.Core.Bool.{true, not, _&&_};
+ghost use Prim.Native.Nat.{_<_};
+ghost use lib.ListN.{length};
+ghost use Rattle.rules.specs.Image.{imageLength, state};
+ghost use Rattle.rules.specs.Channels.{listOk, listOf};
+ghost use Rattle.rules.specs.Outcomes.{isRefused};
+ghost use Rattle.rules.specs.Sources.{sources};
+ghost use Rattle.rules.specs.Steps.{stepsOf};
+ghost use Rattle.rules.specs.Runs.{history, oneIf};
+ghost use Rattle.rules.specs.Waiting.{isCall};
+ghost use Rattle.rules.specs.Bounds.{calmElse, sourceElse, boundIn};
+ghost use Rattle.bounds.specs.Followed.{rivalTriggered, firstDisabled};
+
+// Whether a step was done that is no trigger, arbitration or return; a refused one is none.
+fn other_step(step: Step, a: Answer) -> bool
+    ensures { λ o. ⌜ o ≡ (not (isRefused a) && not (isCall step)) ⌝ }
+{
+    match verdict_of(a) {
+        Verdict::Accepted => !is_call(step),
+        Verdict::Refused(_) => false,
+    }
+}
+
+// The index of the first arbitration with interrupts disabled, once step i is looked at too; `end` where there is none yet.
+fn first_disabled(first: usize, end: usize, i: usize, step: Step, enabled: bool) -> usize
+    ensures { λ k. ⌜ k ≡ firstDisabled first end i step enabled ⌝ }
+{
+    if first < end {
+        return first;
+    }
+    if enabled {
+        return first;
+    }
+    if arbitrations(step) == 1 {
+        return i;
+    }
+    first
+}
+
+// 1 where a step, by its answer, was a trigger of an unmasked source outranking ours on this image, else 0.
+fn rival_trigger(image: &[u8], all: Channels, ours: usize, step: Step, a: Answer) -> usize
+    requires { ⌜ (length (now image) ≡ imageLength) × (listOk (listOf all) ≡ true) × (ours < sources (listOf all)) ⌝ }
+    ensures { λ n. ⌜ n ≡ oneIf (rivalTriggered (now (image .entry)) (listOf all) ours step a) ⌝ }
+{
+    if selected_in(a) {
+        let k = target_of(step);
+        if k < EXTERNALS + all.count {
+            if is_rival(image, all, ours, k) {
+                return 1;
+            }
+        }
+    }
+    0
+}
+
+// The premises on the steps, and the bound where they hold.
+fn followed(image: &[u8], all: Channels, ours: usize, words: &[u64]) -> Bounded
+    requires { ⌜ (length (now image) ≡ imageLength) × (listOk (listOf all) ≡ true) × (ours < sources (listOf all)) ⌝ }
+    ensures { λ b. ⌜ b ≡ boundIn (now (image .entry)) (listOf all) ours (history (state (now (image .entry))) (listOf all) (stepsOf (now (words .entry)))) ⌝ }
+{
+    let mut copy = copy_of(image);
+    let end = words.len();
+    let mut disabled = end;
+    let mut triggers: usize = 0;
+    let mut done: usize = 0;
+    while done < words.len() {
+        let step = decode(words[done]);
+        let enabled = has_bit(copy[CICR], IEN);
+        let a = act(&mut copy, all, step);
+        if other_step(step, a) {
+            return Bounded::OtherStep { index: done };
+        }
+        disabled = first_disabled(disabled, end, done, step, enabled);
+        triggers += rival_trigger(image, all, ours, step, a);
+        done += 1;
+    }
+    if disabled < end {
+        return Bounded::InterruptsDisabled { index: disabled };
+    }
+    let outranking = pending_rivals(image, all, ours);
+    Bounded::Within {
+        outranking,
+        triggers,
+        arbitrations: outranking + triggers + 1,
+    }
+}
+
+// The premises on the source, then those on the steps.
+fn source_bound(image: &[u8], all: Channels, ours: usize, words: &[u64]) -> Bounded
+    requires { ⌜ (length (now image) ≡ imageLength) × (listOk (listOf all) ≡ true) × (ours < sources (listOf all)) ⌝ }
+    ensures { λ b. ⌜ b ≡ sourceElse (now (image .entry)) (listOf all) ours (boundIn (now (image .entry)) (listOf all) ours (history (state (now (image .entry))) (listOf all) (stepsOf (now (words .entry))))) ⌝ }
+{
+    if !is_pending(image, all, ours) {
+        return Bounded::NotPending;
+    }
+    if !is_unmasked(image, all, ours) {
+        return Bounded::Masked;
+    }
+    if level_of(image, all, ours) < image[CICR] % 8 {
+        return followed(image, all, ours, words);
+    }
+    Bounded::LevelNotAbove
+}
+
+// The premises on the image and the list, then those on the source.
+pub fn bound_accepted(image: &[u8], all: Channels, source: u32, words: &[u64]) -> Bounded
+    requires { ⌜ (length (now image) ≡ imageLength) × (listOk (listOf all) ≡ true) × (source < sources (listOf all)) ⌝ }
+    ensures { λ b. ⌜ b ≡ calmElse (now (image .entry)) (listOf all) (sourceElse (now (image .entry)) (listOf all) source (boundIn (now (image .entry)) (listOf all) source (history (state (now (image .entry))) (listOf all) (stepsOf (now (words .entry)))))) ⌝ }
+{
+    let cicr = image[CICR];
+    if has_bit(cicr, IAM) {
+        return Bounded::Nested;
+    }
+    if any_dma(image, all) {
+        return Bounded::DmaEnabled;
+    }
+    if has_bit(image[NICR], TLNM) | has_bit(cicr, TLI) {
+        return Bounded::TopLevelEnabled;
+    }
+    if in_service(image) {
+        return Bounded::TopLevelInService;
+    }
+    source_bound(image, all, source as usize, words)
+}

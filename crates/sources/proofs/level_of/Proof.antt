@@ -1,0 +1,39 @@
+-- The code makes the definition's test; an external channel's level is by EIPLR, and a record's is its PRL.
+use mathlib.Core.Path.{sym, ap, _∙_}
+use Prim.Native.Nat.{ℕ, _%_}
+use native.Mathlib.Omega.{arith}
+use borrow.Author.Needs.{needs}
+use Rattle.sources.proofs.SourceReads.{source-count, external-reads, record-reads}
+use Rattle.sources.proofs.level_of.Statement.{statement}
+use Rattle.sources.proofs.level_of.Tie as tie
+
+shared-slice-read-external-level : tie.Need-shared-slice-read-external-level
+shared-slice-read-external-level c = search needs
+
+cast-external-level : tie.Need-cast-external-level
+cast-external-level c = search needs
+
+external-level-requires : tie.Need-external-level-requires
+external-level-requires c κs = search needs
+
+returns : tie.Need-returns
+returns c = c .external-level .ensures ∙ sym (external-reads _ _ _ (c .before .before .if1 .taken) .levels)
+
+idcr-of-requires : tie.Need-idcr-of-requires
+idcr-of-requires c κs =
+    let s = c .before .before in
+    (s .pre .0, s .pre .1, omega (arith, source-count _ (s .good .1 .0) (s .pre .1)))
+
+returns-2 : tie.Need-returns-2
+returns-2 c = ap (λ (b : ℕ). b % 8) (c .idcr-of .ensures) ∙ sym (record-reads _ _ _ (c .before .if1 .left) .levels)
+
+pub level-of-spec : {M : Type 1} → statement M
+level-of-spec =
+    tie.close
+    (tie.spec
+    shared-slice-read-external-level
+    cast-external-level
+    external-level-requires
+    returns
+    idcr-of-requires
+    returns-2)

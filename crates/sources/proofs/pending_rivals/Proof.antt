@@ -1,0 +1,79 @@
+-- The invariant: n counts the pending rivals below k, so it is at most k.
+use mathlib.Core.Path.{_≡_, refl}
+use mathlib.Core.Bool.{Bool, _&&_}
+use Prim.Native.Nat.{ℕ, _+_, _-_, _≤_}
+use native.Mathlib.Omega.{arith}
+use native.Mathlib.Numerals.{add-one}
+use borrow.Author.Needs.{needs}
+use Rattle.rules.specs.Channels.{mostRecords, listOf}
+use Rattle.rules.specs.Sources.{sources, pending}
+use Rattle.rules.specs.Runs.{oneIf}
+use Rattle.rules.specs.Waiting.{rival, countBelow, pendingOf}
+use Rattle.rules.proofs.Counting.{one-le}
+use Rattle.channels.proofs.ItemLaws.{count-short}
+use Rattle.sources.proofs.SourceReads.{source-count}
+use Rattle.sources.proofs.pending_rivals.Statement.{statement}
+use Rattle.sources.proofs.pending_rivals.Tie as tie
+
+abbrev Inv-loop : tie.InvT-loop
+Inv-loop image all ours n₀ k₀ n k =
+    (k ≤ 8 + all .count) × (all .count ≤ mostRecords) × (n ≤ k)
+    × (n ≡ countBelow k (λ j. pending image (listOf all) j && rival image (listOf all) ours j))
+
+abbrev μ-loop : tie.MeasureT-loop
+μ-loop image all ours n₀ k₀ n k = 8 + all .count - k
+
+-- one number further: at most one more, and counted
+count-more : (p : ℕ → Bool) (k n x : ℕ) → n ≡ countBelow k p → x ≡ oneIf (p k) → (x ≤ 1) × (n + x ≡ countBelow (k + 1) p)
+unfolding countBelow
+count-more p k n x e d = (omega (arith, one-le (p k)), rw (add-one k) (omega arith))
+
+loop-holds : tie.Need-loop-holds Inv-loop μ-loop
+unfolding countBelow
+loop-holds c = (omega arith, count-short _ (c .before .good .1 .0) (c .before .pre .1), omega arith, refl)
+
+add-if1 : tie.Need-add-if1 Inv-loop μ-loop
+add-if1 c = search needs
+
+pending-rival-requires : tie.Need-pending-rival-requires Inv-loop μ-loop
+pending-rival-requires c κs =
+    let s = c .before .before .before .before in
+    (s .pre .0, s .pre .1, s .pre .2, omega (arith, source-count _ (s .good .1 .0) (s .pre .1)))
+
+add-n : tie.Need-add-n Inv-loop μ-loop
+add-n c = omega (arith, count-more _ _ _ _ (c .before .before .before .loop .inv .3) (c .pending-rival .ensures) .0)
+
+add-k : tie.Need-add-k Inv-loop μ-loop
+add-k c = search needs
+
+loop-less : tie.Need-loop-less Inv-loop μ-loop
+loop-less c = search needs
+
+loop-again : tie.Need-loop-again Inv-loop μ-loop
+loop-again c =
+    let i = c .before .before .before .loop .inv in
+    let t = count-more _ _ _ _ (i .3) (c .pending-rival .ensures) in
+    (omega arith, i .1, omega (arith, t .0), t .1)
+
+returns : tie.Need-returns Inv-loop μ-loop
+unfolding pendingOf
+returns c =
+    let l = c .before .before in
+    let s = l .before .before in
+    let e : l .loop .k ≡ sources (listOf (s .args .all)) = omega (arith, source-count _ (s .good .1 .0) (s .pre .1)) in
+    rw e at (l .loop .inv .3)
+
+pub pending-rivals-spec : {M : Type 1} → statement M
+pending-rivals-spec =
+    tie.close
+    (tie.spec
+    Inv-loop
+    μ-loop
+    loop-holds
+    add-if1
+    pending-rival-requires
+    add-n
+    add-k
+    loop-less
+    loop-again
+    returns)

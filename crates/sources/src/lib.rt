@@ -1,0 +1,124 @@
+// What a source has, on an image and a list within the rules: whether it is pending and unmasked, and its level; which sources outrank it, and how many of these wait.
+use bits::has_bit;
+use channels::page_byte;
+use requests::external_level;
+use rules::Channels;
+use rules::DM;
+use rules::EIMR;
+use rules::EIPLR;
+use rules::EIPR;
+use rules::EXTERNALS;
+use rules::IM;
+use rules::IP;
+ghost use mathlib.Core.Path.{_≡_};
+ghost use mathlib.Core.Bool.{true, _&&_};
+ghost use Prim.Native.Nat.{_<_};
+ghost use lib.ListN.{length};
+ghost use Rattle.rules.specs.Image.{imageLength, at};
+ghost use Rattle.rules.specs.Channels.{recordAt, idcrByte, listOk, listOf};
+ghost use Rattle.rules.specs.Sources.{sources, pending, unmasked, level};
+ghost use Rattle.rules.specs.Runs.{oneIf};
+ghost use Rattle.rules.specs.Waiting.{outranks, rival, pendingOf};
+ghost use Rattle.rules.specs.Bounds.{anyDma};
+
+// The IDCR of record k.
+fn idcr_of(image: &[u8], all: Channels, k: usize) -> u8
+    requires { ⌜ (length (now image) ≡ imageLength) × (listOk (listOf all) ≡ true) × (k < all .count) ⌝ }
+    ensures { λ b. ⌜ b ≡ at (now (image .entry)) (idcrByte (recordAt (listOf all) k)) ⌝ }
+{
+    let c = all.items[k];
+    image[page_byte(c.page, c.idcr)]
+}
+
+// Whether a source is pending: its EIPR or IP bit is 1.
+pub fn is_pending(image: &[u8], all: Channels, source: usize) -> bool
+    requires { ⌜ (length (now image) ≡ imageLength) × (listOk (listOf all) ≡ true) × (source < sources (listOf all)) ⌝ }
+    ensures { λ p. ⌜ p ≡ pending (now (image .entry)) (listOf all) source ⌝ }
+{
+    if source < EXTERNALS {
+        return has_bit(image[EIPR], source as u8);
+    }
+    has_bit(idcr_of(image, all, source - EXTERNALS), IP)
+}
+
+// Whether it is unmasked: its EIMR bit, or IM, is 1.
+pub fn is_unmasked(image: &[u8], all: Channels, source: usize) -> bool
+    requires { ⌜ (length (now image) ≡ imageLength) × (listOk (listOf all) ≡ true) × (source < sources (listOf all)) ⌝ }
+    ensures { λ u. ⌜ u ≡ unmasked (now (image .entry)) (listOf all) source ⌝ }
+{
+    if source < EXTERNALS {
+        return has_bit(image[EIMR], source as u8);
+    }
+    has_bit(idcr_of(image, all, source - EXTERNALS), IM)
+}
+
+// Its level, pending or not: an external channel's by EIPLR, a record's PRL.
+pub fn level_of(image: &[u8], all: Channels, source: usize) -> u8
+    requires { ⌜ (length (now image) ≡ imageLength) × (listOk (listOf all) ≡ true) × (source < sources (listOf all)) ⌝ }
+    ensures { λ l. ⌜ l ≡ level (now (image .entry)) (listOf all) source ⌝ }
+{
+    if source < EXTERNALS {
+        return external_level(image[EIPLR], source as u8);
+    }
+    idcr_of(image, all, source - EXTERNALS) % 8
+}
+
+// Whether source k outranks ours, pending or not: a smaller level number or, at equal level, a smaller source number.
+fn is_outranking(image: &[u8], all: Channels, ours: usize, k: usize) -> bool
+    requires { ⌜ (length (now image) ≡ imageLength) × (listOk (listOf all) ≡ true) × (ours < sources (listOf all)) × (k < sources (listOf all)) ⌝ }
+    ensures { λ o. ⌜ o ≡ outranks (now (image .entry)) (listOf all) k ours ⌝ }
+{
+    let own = level_of(image, all, ours);
+    let other = level_of(image, all, k);
+    (other < own) | ((other == own) & (k < ours))
+}
+
+// Whether source k is an unmasked one outranking ours.
+pub fn is_rival(image: &[u8], all: Channels, ours: usize, k: usize) -> bool
+    requires { ⌜ (length (now image) ≡ imageLength) × (listOk (listOf all) ≡ true) × (ours < sources (listOf all)) × (k < sources (listOf all)) ⌝ }
+    ensures { λ r. ⌜ r ≡ rival (now (image .entry)) (listOf all) ours k ⌝ }
+{
+    is_unmasked(image, all, k) & is_outranking(image, all, ours, k)
+}
+
+// 1 where source k is such a one and pending, else 0.
+fn pending_rival(image: &[u8], all: Channels, ours: usize, k: usize) -> usize
+    requires { ⌜ (length (now image) ≡ imageLength) × (listOk (listOf all) ≡ true) × (ours < sources (listOf all)) × (k < sources (listOf all)) ⌝ }
+    ensures { λ n. ⌜ n ≡ oneIf (pending (now (image .entry)) (listOf all) k && rival (now (image .entry)) (listOf all) ours k) ⌝ }
+{
+    if is_pending(image, all, k) {
+        if is_rival(image, all, ours, k) {
+            return 1;
+        }
+    }
+    0
+}
+
+// H of demand 3: how many unmasked sources outranking ours are pending.
+pub fn pending_rivals(image: &[u8], all: Channels, ours: usize) -> usize
+    requires { ⌜ (length (now image) ≡ imageLength) × (listOk (listOf all) ≡ true) × (ours < sources (listOf all)) ⌝ }
+    ensures { λ n. ⌜ n ≡ pendingOf (now (image .entry)) (listOf all) (rival (now (image .entry)) (listOf all) ours) ⌝ }
+{
+    let mut n: usize = 0;
+    let mut k: usize = 0;
+    while k < EXTERNALS + all.count {
+        n += pending_rival(image, all, ours, k);
+        k += 1;
+    }
+    n
+}
+
+// Whether some record has DMA enabled.
+pub fn any_dma(image: &[u8], all: Channels) -> bool
+    requires { ⌜ (length (now image) ≡ imageLength) × (listOk (listOf all) ≡ true) ⌝ }
+    ensures { λ d. ⌜ d ≡ anyDma (now (image .entry)) (listOf all) ⌝ }
+{
+    let mut k: usize = 0;
+    while k < all.count {
+        if has_bit(idcr_of(image, all, k), DM) {
+            return true;
+        }
+        k += 1;
+    }
+    false
+}
