@@ -16,6 +16,7 @@ use Rattle.rules.specs.declared.Answer.{Answer}
 use Rattle.rules.specs.declared.Answer.the-variants as answer
 use Rattle.rules.specs.declared.Bounded.{Bounded}
 use Rattle.rules.specs.Image.{Image}
+use Rattle.rules.specs.Channels.{mostRecords}
 use Rattle.rules.specs.Sources.{sources}
 use Rattle.rules.specs.Runs.{Event, isArbitration}
 use Rattle.rules.specs.Waiting.{rival, triggersOf}
@@ -43,9 +44,9 @@ selectedIn answer.Returned = false
 selectedIn answer.Reset = false
 selectedIn (answer.Refused r) = false
 
--- past every source
+-- past every source: external channels and records
 abbrev pub noSource : ℕ
-noSource = 20
+noSource = 8 + mostRecords
 
 -- the one source that a trigger can select
 abbrev pub targetBy : Trigger → ℕ

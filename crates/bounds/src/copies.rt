@@ -4,7 +4,7 @@ ghost use mathlib.Core.Path.{_≡_};
 ghost use lib.ListN.{length, replicate};
 ghost use Rattle.rules.specs.Image.{imageLength};
 
-// An image of zeros.
+// An image of zeros: a function of its own, so that a proof about the copy sees its length and not its 1,265 bytes.
 fn zeros() -> [u8; IMAGE_LENGTH]
     ensures { λ m. ⌜ m ≡ replicate imageLength 0 ⌝ }
 {

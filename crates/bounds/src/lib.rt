@@ -6,8 +6,8 @@ use arbiter::in_service;
 use bits::has_bit;
 use copies::copy_of;
 use dispatch::act;
-use dispatch::arbitrations;
 use dispatch::decode;
+use dispatch::is_arbitration;
 use dispatch::verdict_of;
 use rules::Answer;
 use rules::Bounded;
@@ -64,13 +64,14 @@ fn first_disabled(first: usize, end: usize, i: usize, step: Step, enabled: bool)
     if enabled {
         return first;
     }
-    if arbitrations(step) == 1 {
+    if is_arbitration(step) {
         return i;
     }
     first
 }
 
-// 1 where a step, by its answer, was a trigger of an unmasked source outranking ours on this image, else 0.
+// 1 where a step, by its answer, was a trigger of an unmasked source outranking ours on this image, else 0. A source that was triggered is there; that it is, is tested all the
+// same, since `is_rival` asks it and this function does not know where the answer comes from.
 fn rival_trigger(image: &[u8], all: Channels, ours: usize, step: Step, a: Answer) -> usize
     requires { ⌜ (length (now image) ≡ imageLength) × (listOk (listOf all) ≡ true) × (ours < sources (listOf all)) ⌝ }
     ensures { λ n. ⌜ n ≡ oneIf (rivalTriggered (now (image .entry)) (listOf all) ours step a) ⌝ }
@@ -114,7 +115,7 @@ fn followed(image: &[u8], all: Channels, ours: usize, words: &[u64]) -> Bounded
     Bounded::Within {
         outranking,
         triggers,
-        arbitrations: outranking + triggers + 1,
+        bound: outranking + triggers + 1,
     }
 }
 

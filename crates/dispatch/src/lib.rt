@@ -58,17 +58,27 @@ pub fn verdict_of(a: Answer) -> Verdict
     }
 }
 
+// Whether a step is an arbitration.
+pub fn is_arbitration(step: Step) -> bool
+    ensures { λ b. ⌜ b ≡ isArbitration step ⌝ }
+{
+    match step {
+        Step::Read(_) => false,
+        Step::Write(_, _) => false,
+        Step::Trigger(_) => false,
+        Step::Arbitrate => true,
+        Step::Return => false,
+        Step::Reset => false,
+        Step::Unknown => false,
+    }
+}
+
 // 1 for an arbitration, else 0.
 pub fn arbitrations(step: Step) -> usize
     ensures { λ n. ⌜ n ≡ oneIf (isArbitration step) ⌝ }
 {
-    match step {
-        Step::Read(_) => 0,
-        Step::Write(_, _) => 0,
-        Step::Trigger(_) => 0,
-        Step::Arbitrate => 1,
-        Step::Return => 0,
-        Step::Reset => 0,
-        Step::Unknown => 0,
+    if is_arbitration(step) {
+        return 1;
     }
+    0
 }

@@ -1,25 +1,18 @@
-// Runs cases of demand 3's bound in which a premise fails, each beside one in which it holds, and prints for each the bytes of the image that are not 0 and what is answered.
+// Runs cases of demand 3's bound in which a premise on the start fails, each beside one in which it holds, and prints for each the bytes of the image that are not 0 and what is answered.
 // The expected output, beside this program, is written from document 01.
 use rules::Channels;
-use rules::EIVR;
 use rules::IMAGE_LENGTH;
 use rules::MARK;
-use rules::PPR;
 use samples::arbitrate_word;
 use samples::interrupts;
 use samples::none;
 use samples::pin_word;
 use samples::read_word;
-use samples::request_word;
-use samples::reset_word;
 use samples::return_word;
 use samples::single;
-use samples::step_word;
 use samples::twelve;
-use samples::unknown_word;
 use samples::usual;
 use samples::with;
-use samples::write_word;
 use steps::bound;
 
 // The IDCR of the record on page 9, and of the one on page 12.
@@ -101,6 +94,13 @@ fn source_numbers() {
 fn modes() {
     three_steps(b"concurrent mode", pending(0x97, 0x00), none(), 1);
     three_steps(b"nested mode", pending(0x9F, 0x00), none(), 1);
+    three_steps(
+        b"concurrent mode without GCEN",
+        pending(0x17, 0x00),
+        none(),
+        1,
+    );
+    three_steps(b"nested mode without GCEN", pending(0x1F, 0x00), none(), 1);
 }
 
 fn dma() {
@@ -122,6 +122,12 @@ fn dma() {
         b"the byte of IDCR with DM, and no record",
         with(m, IDCR, 0x10),
         none(),
+        1,
+    );
+    three_steps(
+        b"the sixth of twelve",
+        with(m, 336, 0x10),
+        twelve(usual(12), 12),
         1,
     );
     let n = with(m, LAST_IDCR, 0x10);
@@ -200,149 +206,22 @@ fn levels() {
     three_steps(b"PRL 2 at CPL 3", with(n, IDCR, 0xEA), single(), 8);
 }
 
-// ---- the steps
-
-// Reads, writes and resets that are not refused, behind other steps and before them.
-fn other_steps() {
-    let m = pending(0x97, 0x00);
+// Records 3 and 11 of twelve.
+fn records_apart() {
+    let m = interrupts(0x97, 0x00, 0x02, 0x07, 0xFC);
+    let n = with(m, LAST_IDCR, 0x28);
+    report::start(b"the last record pending and unmasked; no step", n);
+    let nothing = [0u64; 0];
+    bound(n, twelve(usual(12), 12), 19, &nothing);
+    bound(n, twelve(usual(12), 12), 11, &nothing);
+    bound(n, twelve(usual(12), 12), 1, &nothing);
+    let o = with(with(m, 304, 0x08), LAST_IDCR, 0x20);
     report::start(
-        b"read R230; write 00h to R230; reset; each after a pin edge",
-        m,
+        b"the last record pending and masked, the fourth unmasked",
+        o,
     );
-    bound(m, none(), 1, &[pin_word(1, 0), read_word(230)]);
-    bound(m, none(), 1, &[pin_word(1, 0), write_word(230, 0x00)]);
-    bound(m, none(), 1, &[pin_word(1, 0), reset_word()]);
-    report::start(b"two of them; one at the end of ten steps", m);
-    bound(
-        m,
-        none(),
-        1,
-        &[arbitrate_word(), reset_word(), reset_word()],
-    );
-    let mut ten = [pin_word(2, 0); 10];
-    ten[9] = read_word(230);
-    bound(m, none(), 1, &ten);
-    bound(m, none(), 1, &ten[..9]);
-}
-
-// Steps that are refused change nothing and count nowhere, whatever their kind is.
-fn refused_steps() {
-    let m = pending(0x97, 0x00);
-    report::start(
-        b"read R256 and write to R256; unknown kinds of step and trigger; pin 8; request 0 without a record",
-        m,
-    );
-    bound(
-        m,
-        none(),
-        1,
-        &[read_word(256), write_word(256, 0x00), arbitrate_word()],
-    );
-    bound(
-        m,
-        none(),
-        1,
-        &[unknown_word(), step_word(2, 4, 0, 0), arbitrate_word()],
-    );
-    bound(
-        m,
-        none(),
-        1,
-        &[pin_word(8, 0), request_word(0), arbitrate_word()],
-    );
-    bound(m, none(), 1, &[read_word(256), read_word(230)]);
-}
-
-// An arbitration gets IEN as the steps before it left it; its index counts the refused steps too.
-fn disabled() {
-    let m = pending(0x97, 0x00);
-    report::start(
-        b"two arbitrations; with a return between; with an edge; with a refused step",
-        m,
-    );
-    bound(m, none(), 1, &[arbitrate_word(), arbitrate_word()]);
-    bound(
-        m,
-        none(),
-        1,
-        &[arbitrate_word(), return_word(), arbitrate_word()],
-    );
-    bound(
-        m,
-        none(),
-        1,
-        &[arbitrate_word(), pin_word(0, 0), arbitrate_word()],
-    );
-    bound(
-        m,
-        none(),
-        1,
-        &[arbitrate_word(), pin_word(8, 0), arbitrate_word()],
-    );
-    report::start(b"three arbitrations; one of them enabled again", m);
-    bound(
-        m,
-        none(),
-        1,
-        &[arbitrate_word(), arbitrate_word(), arbitrate_word()],
-    );
-    bound(
-        m,
-        none(),
-        1,
-        &[
-            arbitrate_word(),
-            arbitrate_word(),
-            return_word(),
-            arbitrate_word(),
-        ],
-    );
-}
-
-// Nothing requests: IEN stays.
-fn enabled() {
-    let m = with(interrupts(0x97, 0x00, 0x02, 0x02, 0xFC), EIVR, 0x44);
-    report::start(
-        b"interrupts disabled, no arbitration; with one; two after the last request",
-        with(m, 230, 0x87),
-    );
-    bound(with(m, 230, 0x87), none(), 1, &[pin_word(1, 0)]);
-    bound(
-        with(m, 230, 0x87),
-        none(),
-        1,
-        &[pin_word(1, 0), arbitrate_word()],
-    );
-    bound(
-        with(m, 230, 0x87),
-        none(),
-        1,
-        &[
-            return_word(),
-            arbitrate_word(),
-            return_word(),
-            arbitrate_word(),
-            arbitrate_word(),
-        ],
-    );
-    report::start(b"a read after an arbitration with interrupts disabled", m);
-    bound(
-        m,
-        none(),
-        1,
-        &[arbitrate_word(), arbitrate_word(), read_word(230)],
-    );
-}
-
-// After the acknowledgement of ours the premises are looked at still.
-fn after_the_acknowledgement() {
-    let m = pending(0x97, 0x00);
-    report::start(
-        b"two arbitrations, for source 0; an arbitration and a read of R230",
-        m,
-    );
-    bound(m, none(), 0, &[arbitrate_word(), arbitrate_word()]);
-    bound(m, none(), 0, &[arbitrate_word(), read_word(230)]);
+    bound(o, twelve(usual(12), 12), 19, &nothing);
+    bound(o, twelve(usual(12), 12), 11, &nothing);
 }
 
 // Ours has to be pending at the start.
@@ -350,19 +229,6 @@ fn pending_later() {
     let m = interrupts(0x97, 0x00, 0x01, 0x03, 0xFC);
     report::start(b"pin 1, arbitrate", m);
     bound(m, none(), 1, &[pin_word(1, 0), arbitrate_word()]);
-}
-
-// Whether a write is refused goes by the page that PPR selects; one that changes nothing is a write all the same.
-fn paged_writes() {
-    let m = with(pending(0x97, 0x00), PPR, 0x24);
-    report::start(
-        b"write 00h to R243 of page 9, arbitrate; without a record there, and with one",
-        m,
-    );
-    bound(m, none(), 1, &[write_word(243, 0x00), arbitrate_word()]);
-    bound(m, single(), 1, &[write_word(243, 0x00), arbitrate_word()]);
-    report::start(b"write 97h to R230", m);
-    bound(m, none(), 1, &[write_word(230, 0x97)]);
 }
 
 fn main() {
@@ -375,11 +241,6 @@ fn main() {
     not_pending();
     masked();
     levels();
-    other_steps();
-    refused_steps();
-    disabled();
-    enabled();
-    after_the_acknowledgement();
+    records_apart();
     pending_later();
-    paged_writes();
 }

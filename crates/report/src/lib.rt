@@ -194,14 +194,14 @@ pub fn bounded(b: Bounded) {
         Bounded::Within {
             outranking,
             triggers,
-            arbitrations,
+            bound,
         } => {
             text(b"H ");
             number(outranking as u64);
             text(b", E ");
             number(triggers as u64);
             text(b", bound ");
-            number(arbitrations as u64);
+            number(bound as u64);
         }
     }
 }

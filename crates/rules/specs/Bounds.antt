@@ -33,13 +33,13 @@ anyDma m cs = anyBelow (sources cs) (dmaEnabled m cs)
 abbrev pub topLevelEnabled : Image → Bool
 topLevelEnabled m = has m TLNM || has m TLI
 
--- the first of the premises on the image and the list that fails, in the order in which demand 3 names them; b where none does
+-- the first of the premises on the image and the list that fails, in the order of Waiting `Calm`; b where none does
 unfoldable pub calmElse : Image → List Channel → Bounded → Bounded
 calmElse m cs b =
     cond (has m IAM) bounded.Nested
     (cond (anyDma m cs) bounded.DmaEnabled (cond (topLevelEnabled m) bounded.TopLevelEnabled (cond (inService m) bounded.TopLevelInService b)))
 
--- likewise of the premises on the source
+-- the first of the premises on the source that fails, in the order of Waiting `Start`: pending, unmasked, its level above the current one; b where none does
 unfoldable pub sourceElse : Image → List Channel → ℕ → Bounded → Bounded
 sourceElse m cs s b =
     cond (pending m cs s) (cond (unmasked m cs s) (cond (ltb (level m cs s) (CPL m)) b bounded.LevelNotAbove) bounded.Masked) bounded.NotPending
@@ -50,16 +50,16 @@ sourceElse m cs s b =
 abbrev pub otherStep : Event → Bool
 otherStep e = not (eventRefused e) && not (isCall (e .step))
 
--- an arbitration with interrupts disabled, on the image that it gets
+-- an arbitration with interrupts disabled, on the image that it gets (with no DMA enabled none is refused)
 abbrev pub disabledStep : Event → Bool
 disabledStep e = isArbitration (e .step) && not (has (e .before .image) IEN)
 
--- the index of the first event of a kind, the first of them having index i
+-- the index of the first event of a kind, where the events start at index i
 unfoldable pub firstFrom : ℕ → (Event → Bool) → List Event → Option ℕ
 firstFrom i p [] = none
 firstFrom i p (e ∷ es) = cond (p e) (some i) (firstFrom (i + 1) p es)
 
--- by the index of the first other step, that of the first arbitration with interrupts disabled, H and E: an other step anywhere in the list comes first
+-- by the index of the first step of another kind, that of the first arbitration with interrupts disabled, H and E. A step of another kind is answered first, wherever it stands
 abbrev pub stepsElse : Option ℕ → Option ℕ → ℕ → ℕ → Bounded
 stepsElse (some i) disabled h e = bounded.OtherStep i
 stepsElse none (some i) h e = bounded.InterruptsDisabled i
@@ -71,6 +71,7 @@ boundIn m cs s es = stepsElse (firstFrom 0 otherStep es) (firstFrom 0 disabledSt
 
 -- ---- the bound
 
+-- the premises one after another, or the refusal
 abbrev pub boundIf : Verdict → Image → List Channel → ℕ → List Event → Bounded
 boundIf verdict.Accepted m cs s es = calmElse m cs (sourceElse m cs s (boundIn m cs s es))
 boundIf (verdict.Refused r) m cs s es = bounded.Refused r

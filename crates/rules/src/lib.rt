@@ -217,6 +217,6 @@ pub enum Bounded {
     Within {
         outranking: usize,
         triggers: usize,
-        arbitrations: usize,
+        bound: usize,
     },
 }

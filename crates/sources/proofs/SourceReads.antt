@@ -1,6 +1,6 @@
 -- What a source has, by the bytes that the code reads, and how many sources a list by value has. Assumes nothing.
-use mathlib.Core.Path.{_≡_}
-use mathlib.Core.Bool.{Bool, true, false}
+use mathlib.Core.Path.{_≡_, refl}
+use mathlib.Core.Bool.{Bool, true, false, cond}
 use mathlib.Core.List.{List}
 use Prim.Native.Nat.{ℕ, _+_, _%_, _≤_, _<_}
 use native.Mathlib.Omega.{arith}
@@ -10,9 +10,9 @@ use borrow.Author.Tests.{lt-ltb, le-ltb}
 use Rattle.bits.specs.Bits.{bit}
 use Rattle.rules.specs.declared.Channel.{Channel}
 use Rattle.rules.specs.declared.Channels.{Channels}
-use Rattle.rules.specs.Image.{Image, at, EIPR, EIMR, EIPLR}
+use Rattle.rules.specs.Image.{Image, at, bitOf, has, EIPR, EIMR, EIPLR}
 use Rattle.rules.specs.Channels.{idcrByte, listOk, listOf}
-use Rattle.rules.specs.Sources.{sources, recordOf, pendingBit, pending, unmasked, dmaEnabled, externalLevel, level}
+use Rattle.rules.specs.Sources.{sources, external, recordOf, IP, IM, pendingBit, pending, unmasked, dmaEnabled, externalLevel, level}
 use Rattle.rules.proofs.Channels as S
 use Rattle.channels.proofs.ItemLaws.{list-count}
 
@@ -22,23 +22,34 @@ unfolding sources
 source-count all good ok = omega (arith, list-count all good ok)
 
 module _ (m : Image) (cs : List Channel) (s : ℕ) where
-  -- whether it is pending, unmasked and has DMA enabled, and its level
-  pub record Reads (p u d : Bool) (l : ℕ) : Type 0 where
-    pub pends : pending m cs s ≡ p
-    pub unmasks : unmasked m cs s ≡ u
+  -- the definitions' bits, each as one of a register or one of IDCR
+  pub pending-bit : pending m cs s ≡ cond (external s) (has m (bitOf EIPR s)) (has m (IP (recordOf cs s)))
+  unfolding pending pendingBit
+  pending-bit = go (external s)
+    where
+      go : (b : Bool) → has m (cond b (bitOf EIPR s) (IP (recordOf cs s))) ≡ cond b (has m (bitOf EIPR s)) (has m (IP (recordOf cs s)))
+      go true = refl
+      go false = refl
+
+  pub unmasked-bit : unmasked m cs s ≡ cond (external s) (has m (bitOf EIMR s)) (has m (IM (recordOf cs s)))
+  unfolding unmasked
+  unmasked-bit = refl
+
+  -- whether it has DMA enabled, and its level
+  pub record Reads (d : Bool) (l : ℕ) : Type 0 where
     pub enables : dmaEnabled m cs s ≡ d
     pub levels : level m cs s ≡ l
 
-  -- an external channel's, by EIPR, EIMR and EIPLR
-  pub external-reads : s < 8 → Reads (bit s (at m EIPR)) (bit s (at m EIMR)) false (externalLevel (at m EIPLR) s)
-  unfolding pending pendingBit unmasked dmaEnabled level
-  external-reads h = let e = lt-ltb s 8 h in record { pends = rw e; unmasks = rw e; enables = rw e; levels = rw e }
+  -- an external channel's, by EIPLR
+  pub external-reads : s < 8 → Reads false (externalLevel (at m EIPLR) s)
+  unfolding dmaEnabled level
+  external-reads h = let e = lt-ltb s 8 h in record { enables = rw e; levels = rw e }
 
   -- the IDCR of its record
   abbrev pub idcrOf : ℕ
   idcrOf = at m (idcrByte (recordOf cs s))
 
   -- a record's, by its IDCR
-  pub record-reads : 8 ≤ s → Reads (bit 5 idcrOf) (bit 3 idcrOf) (bit 4 idcrOf) (idcrOf % 8)
-  unfolding pending pendingBit unmasked dmaEnabled level
-  record-reads h = let e = le-ltb s 8 h in record { pends = rw e; unmasks = rw e; enables = rw e; levels = rw e }
+  pub record-reads : 8 ≤ s → Reads (bit 4 idcrOf) (idcrOf % 8)
+  unfolding dmaEnabled level
+  record-reads h = let e = le-ltb s 8 h in record { enables = rw e; levels = rw e }

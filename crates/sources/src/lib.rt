@@ -11,12 +11,12 @@ use rules::EXTERNALS;
 use rules::IM;
 use rules::IP;
 ghost use mathlib.Core.Path.{_≡_};
-ghost use mathlib.Core.Bool.{true, _&&_};
+ghost use mathlib.Core.Bool.{true, cond, _&&_};
 ghost use Prim.Native.Nat.{_<_};
 ghost use lib.ListN.{length};
-ghost use Rattle.rules.specs.Image.{imageLength, at};
+ghost use Rattle.rules.specs.Image.{imageLength, at, bitOf, has};
 ghost use Rattle.rules.specs.Channels.{recordAt, idcrByte, listOk, listOf};
-ghost use Rattle.rules.specs.Sources.{sources, pending, unmasked, level};
+ghost use Rattle.rules.specs.Sources.{sources, external, recordOf, pending, unmasked, level};
 ghost use Rattle.rules.specs.Runs.{oneIf};
 ghost use Rattle.rules.specs.Waiting.{outranks, rival, pendingOf};
 ghost use Rattle.rules.specs.Bounds.{anyDma};
@@ -30,15 +30,23 @@ fn idcr_of(image: &[u8], all: Channels, k: usize) -> u8
     image[page_byte(c.page, c.idcr)]
 }
 
+// A bit that each source has: of an external channel bit `source` of a register, of a record bit k of its IDCR.
+fn source_bit(image: &[u8], all: Channels, source: usize, register: usize, k: u8) -> bool
+    requires { ⌜ (length (now image) ≡ imageLength) × (listOk (listOf all) ≡ true) × (source < sources (listOf all)) × (register < imageLength) × (k < 8) ⌝ }
+    ensures { λ b. ⌜ b ≡ cond (external source) (has (now (image .entry)) (bitOf register source)) (has (now (image .entry)) (bitOf (idcrByte (recordOf (listOf all) source)) k)) ⌝ }
+{
+    if source < EXTERNALS {
+        return has_bit(image[register], source as u8);
+    }
+    has_bit(idcr_of(image, all, source - EXTERNALS), k)
+}
+
 // Whether a source is pending: its EIPR or IP bit is 1.
 pub fn is_pending(image: &[u8], all: Channels, source: usize) -> bool
     requires { ⌜ (length (now image) ≡ imageLength) × (listOk (listOf all) ≡ true) × (source < sources (listOf all)) ⌝ }
     ensures { λ p. ⌜ p ≡ pending (now (image .entry)) (listOf all) source ⌝ }
 {
-    if source < EXTERNALS {
-        return has_bit(image[EIPR], source as u8);
-    }
-    has_bit(idcr_of(image, all, source - EXTERNALS), IP)
+    source_bit(image, all, source, EIPR, IP)
 }
 
 // Whether it is unmasked: its EIMR bit, or IM, is 1.
@@ -46,10 +54,7 @@ pub fn is_unmasked(image: &[u8], all: Channels, source: usize) -> bool
     requires { ⌜ (length (now image) ≡ imageLength) × (listOk (listOf all) ≡ true) × (source < sources (listOf all)) ⌝ }
     ensures { λ u. ⌜ u ≡ unmasked (now (image .entry)) (listOf all) source ⌝ }
 {
-    if source < EXTERNALS {
-        return has_bit(image[EIMR], source as u8);
-    }
-    has_bit(idcr_of(image, all, source - EXTERNALS), IM)
+    source_bit(image, all, source, EIMR, IM)
 }
 
 // Its level, pending or not: an external channel's by EIPLR, a record's PRL.

@@ -85,7 +85,7 @@ pub fn wait(image: &mut [u8], cs: &[Channel], source: u32, words: &[u64]) -> Wai
     machine::wait(image, all, source, words)
 }
 
-// Demand 3's bound for a source over steps given as words: H, E and H + E + 1 where its premises hold, else the first that fails; and that it is answered exactly then.
+// Demand 3's bound for a source over steps given as words: H, E and H + E + 1 where its premises hold, else the first that fails; and that a bound is answered exactly where they hold.
 pub fn bound(image: &[u8], cs: &[Channel], source: u32, words: &[u64]) -> Bounded
     ensures { λ b. ⌜ Bounds (now (image .entry)) (now (cs .entry)) source (now (words .entry)) b × BoundSays (now (image .entry)) (now (cs .entry)) source (stepsOf (now (words .entry))) b ⌝ }
 {

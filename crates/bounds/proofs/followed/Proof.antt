@@ -15,7 +15,7 @@ use Rattle.rules.specs.Waiting.{rival, H}
 use Rattle.rules.proofs.Counting.{one-le, pendingOf-le}
 use Rattle.channels.proofs.ItemLaws.{count-short}
 use Rattle.sources.proofs.SourceReads.{source-count}
-use Rattle.bounds.specs.Followed.{rivalTriggered, followedFrom}
+use Rattle.bounds.specs.Followed.{noSource, rivalTriggered, followedFrom}
 use Rattle.dispatch.proofs.NextSteps.{next-word, no-word}
 use Rattle.bounds.proofs.FollowedSteps.{triggers-told, followed-start, followed-end, followed-other, followed-on}
 use Rattle.bounds.proofs.followed.Statement.{statement}
@@ -37,8 +37,8 @@ counted-one c =
     let s = d .before .before .before .before .before .before .before .before .before .before in
     omega (arith, c .rival-trigger .ensures, one-le (rivalTriggered (now (s .args .image)) (listOf (s .args .all)) (s .args .ours) (d .before .before .before .decode .result) (d .act .result)))
 
--- there are twenty sources at most
-few-rivals : (c : tie.After-pending-rivals Inv-loop μ-loop) → c .pending-rivals .result ≤ 20
+-- no more than there are sources
+few-rivals : (c : tie.After-pending-rivals Inv-loop μ-loop) → c .pending-rivals .result ≤ noSource
 few-rivals c =
     let s = c .before .before .before .before .before .before .before in
     omega (

@@ -1,12 +1,15 @@
 -- The code makes the definition's three tests in the same order.
-use mathlib.Core.Path.{sym, _∙_}
+use mathlib.Core.Path.{_≡_, sym, _∙_}
 use native.Mathlib.Omega.{arith}
 use borrow.Author.Needs.{needs}
+use denote.Ref.{now}
 use borrow.Author.Tests.{lt-ltb, le-ltb}
 use Rattle.rules.specs.Channels.{listOf}
 use Rattle.rules.specs.Sources.{sources}
+use Rattle.rules.specs.Waiting.{rival}
 use Rattle.channels.proofs.ItemLaws.{count-short}
 use Rattle.sources.proofs.SourceReads.{source-count}
+use Rattle.bounds.specs.Followed.{rivalTriggered}
 use Rattle.bounds.proofs.rival_trigger.Statement.{statement}
 use Rattle.bounds.proofs.rival_trigger.Tie as tie
 
@@ -26,29 +29,23 @@ is-rival-requires c κs =
     let s = c .before .before .before .before .before .before in
     (s .pre .0, s .pre .1, s .pre .2, omega (arith, source-count _ (s .good .1 .0) (s .pre .1), c .if2 .taken))
 
-returns : tie.Need-returns
-returns c =
-    let d = c .before .before in
-    let t = d .before .before in
+-- where the first two tests pass, the third is the answer
+rival-decides : (c : tie.Then2) → let a = c .before .before .before .before .before .before .args in
+    rivalTriggered (now (a .image)) (listOf (a .all)) (a .ours) (a .step) (a .a) ≡ rival (now (a .image)) (listOf (a .all)) (a .ours) (c .before .before .target-of .result)
+rival-decides c =
+    let t = c .before .before in
     let s = t .before .before .before .before in
     rw (
       sym (t .before .before .selected-in .ensures) ∙ t .before .if1 .taken,
       ← t .target-of .ensures,
-      lt-ltb (t .target-of .result) (sources (listOf (s .args .all))) (omega (arith, source-count _ (s .good .1 .0) (s .pre .1), d .if2 .taken)),
-      sym (c .before .is-rival .ensures) ∙ c .if3 .taken,
+      lt-ltb (t .target-of .result) (sources (listOf (s .args .all))) (omega (arith, source-count _ (s .good .1 .0) (s .pre .1), c .if2 .taken)),
     )
 
+returns : tie.Need-returns
+returns c = rw (rival-decides (c .before .before), sym (c .before .is-rival .ensures) ∙ c .if3 .taken)
+
 returns-2 : tie.Need-returns-2
-returns-2 c =
-    let d = c .before .before in
-    let t = d .before .before in
-    let s = t .before .before .before .before in
-    rw (
-      sym (t .before .before .selected-in .ensures) ∙ t .before .if1 .taken,
-      ← t .target-of .ensures,
-      lt-ltb (t .target-of .result) (sources (listOf (s .args .all))) (omega (arith, source-count _ (s .good .1 .0) (s .pre .1), d .if2 .taken)),
-      sym (c .before .is-rival .ensures) ∙ c .if3 .left,
-    )
+returns-2 c = rw (rival-decides (c .before .before), sym (c .before .is-rival .ensures) ∙ c .if3 .left)
 
 returns-3 : tie.Need-returns-3
 returns-3 c =

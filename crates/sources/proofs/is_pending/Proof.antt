@@ -1,43 +1,15 @@
--- The code makes the definition's test, and looks at the same bit: of EIPR, or a record's IP.
-use mathlib.Core.Path.{sym, ap, _∙_}
-use native.Mathlib.Omega.{arith}
+-- Its bit is that of EIPR, or IP.
+use mathlib.Core.Path.{sym, _∙_}
 use borrow.Author.Needs.{needs}
-use Rattle.bits.specs.Bits.{bit}
-use Rattle.sources.proofs.SourceReads.{source-count, external-reads, record-reads}
+use Rattle.sources.proofs.SourceReads.{pending-bit}
 use Rattle.sources.proofs.is_pending.Statement.{statement}
 use Rattle.sources.proofs.is_pending.Tie as tie
 
-shared-slice-read-has-bit : tie.Need-shared-slice-read-has-bit
-shared-slice-read-has-bit c = search needs
-
-cast-has-bit : tie.Need-cast-has-bit
-cast-has-bit c = search needs
-
-has-bit-requires : tie.Need-has-bit-requires
-has-bit-requires c κs = search needs
+source-bit-requires : tie.Need-source-bit-requires
+source-bit-requires c κs = search needs
 
 returns : tie.Need-returns
-returns c = c .has-bit .ensures ∙ sym (external-reads _ _ _ (c .before .before .if1 .taken) .pends)
-
-idcr-of-requires : tie.Need-idcr-of-requires
-idcr-of-requires c κs =
-    let s = c .before .before in
-    (s .pre .0, s .pre .1, omega (arith, source-count _ (s .good .1 .0) (s .pre .1)))
-
-has-bit-requires-2 : tie.Need-has-bit-requires-2
-has-bit-requires-2 c κs = search needs
-
-returns-2 : tie.Need-returns-2
-returns-2 c = c .has-bit2 .ensures ∙ ap (bit _) (c .before .idcr-of .ensures) ∙ sym (record-reads _ _ _ (c .before .before .if1 .left) .pends)
+returns c = c .source-bit .ensures ∙ sym (pending-bit _ _ _)
 
 pub is-pending-spec : {M : Type 1} → statement M
-is-pending-spec =
-    tie.close
-    (tie.spec
-    shared-slice-read-has-bit
-    cast-has-bit
-    has-bit-requires
-    returns
-    idcr-of-requires
-    has-bit-requires-2
-    returns-2)
+is-pending-spec = tie.close (tie.spec source-bit-requires returns)
