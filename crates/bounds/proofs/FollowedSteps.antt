@@ -1,7 +1,7 @@
 -- What the next step does to the steps that a bound follows. Assumes nothing.
 use mathlib.Core.Path.{_≡_, refl, sym, ap, subst, _∙_}
 use mathlib.Core.Bool.{Bool, true, false, cond, not, _&&_, _||_, and-false}
-use mathlib.Core.List.{List, [], _∷_}
+use mathlib.Core.List.{List, []}
 use mathlib.Core.Option.{Option, none, some}
 use Prim.Native.Nat.{ℕ, _+_, _<_}
 use native.Mathlib.Nat.{add-zero, zero-add, add-assoc}
@@ -31,7 +31,7 @@ use Rattle.rules.proofs.ChannelLaws.{list-short}
 use Rattle.rules.proofs.SelectionLaws.{selectIf-some, selected-there}
 use Rattle.rules.proofs.Bools.{impossible}
 use Rattle.bounds.specs.Followed.{selected, selectedIn, noSource, targetBy, targetOf, firstDisabled, followedFrom}
-use Rattle.dispatch.proofs.NextSteps.{Next}
+use Rattle.dispatch.proofs.NextSteps.{Next, eventOf, history-next}
 
 -- ---- the source that a step triggered
 
@@ -43,10 +43,6 @@ selected-target m trigger.Watchdog s e = selectIf-some (not (has m IAOS)) 0 s e
 selected-target m (trigger.Nmi d) s e = impossible (cc)
 selected-target m (trigger.Request k) s e = cc
 selected-target m trigger.Unknown s e = impossible (cc)
-
--- a step with the state that it got, what it answered and left
-abbrev eventOf : State → Step → Answer → State → Event
-eventOf s x a t = record { before = s; step = x; outcome = outcome a t }
 
 module _ (m : Image) (cs : List Channel) (ok : listOk cs ≡ true) (among : ℕ → Bool) where
   -- by its answer and its target a step is a trigger of a source of the set
@@ -108,15 +104,10 @@ module _ (among : ℕ → Bool) (h end first e : ℕ) where
       go false = refl
 
   module _ {s t : State} {cs : List Channel} {ys xs : List Step} {x : Step} {a : Answer} (next : Next s t cs ys xs x a) (n : ℕ) where
-    -- the step's event, and those of the others
-    events-next : history s cs ys ≡ eventOf s x a t ∷ history t cs xs
-    unfolding history
-    events-next = rw (next .first, ← next .did)
-
     -- a step of another kind is answered at once
     pub followed-other : otherStep (eventOf s x a t) ≡ true → followedFrom among h end n first e (history s cs ys) ≡ bounded.OtherStep n
     unfolding followedFrom firstFrom
-    followed-other o = rw (events-next, o)
+    followed-other o = rw (history-next next, o)
 
     -- else the step's index is kept if it is the first arbitration with interrupts disabled, and the step is counted if it is a trigger of the set
     pub followed-on : otherStep (eventOf s x a t) ≡ false → n < end
@@ -124,7 +115,7 @@ module _ (among : ℕ → Bool) (h end first e : ℕ) where
         ≡ followedFrom among h end (n + 1) (firstDisabled first end n x (has (s .image) IEN)) (e + oneIf (triggers among (eventOf s x a t))) (history t cs xs)
     unfolding followedFrom firstFrom counted
     followed-on o l =
-        rw (events-next, o, add-assoc)
+        rw (history-next next, o, add-assoc)
         (ap (λ (i : Option ℕ). stepsElse (firstFrom (n + 1) otherStep (history t cs xs)) i h (e + (oneIf (triggers among (eventOf s x a t)) + triggersOf among (history t cs xs))))
         (go (ltb first end) (disabledStep (eventOf s x a t)) refl))
       where

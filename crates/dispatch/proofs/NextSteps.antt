@@ -13,6 +13,7 @@ use Rattle.rules.specs.Image.{State, imageLength}
 use Rattle.rules.specs.Channels.{listOk}
 use Rattle.rules.specs.Outcomes.{outcome}
 use Rattle.rules.specs.Steps.{actOf, stepOf, decodeOf, stepsOf}
+use Rattle.rules.specs.Runs.{Event, history}
 use Rattle.rules.proofs.Refusals.{accepted-acts}
 
 -- after all of the words there is none
@@ -30,3 +31,13 @@ pub next-word : {s t : State} {cs : List Channel} (ws : List ℕ) (n : ℕ) {x :
     → n < length ws → x ≡ decodeOf (getD ws n 0) → outcome a t ≡ actOf s cs x → Next s t cs (stepsOf (drop n ws)) (stepsOf (drop (n + 1) ws)) x a
 unfolding stepsOf
 next-word {s} {t} {cs} ws n {x} l ok h e d = record { first = rw (e, add-one, drop-cons ws n 0 h); did = d ∙ sym (accepted-acts s cs x l ok) }
+
+-- the event of a step that got s, answered a and left t
+abbrev pub eventOf : State → Step → Answer → State → Event
+eventOf s x a t = record { before = s; step = x; outcome = outcome a t }
+
+-- the next step's event is the first of the history, and the others go on from what it left
+pub history-next : {s t : State} {cs : List Channel} {ys xs : List Step} {x : Step} {a : Answer} → Next s t cs ys xs x a
+    → history s cs ys ≡ eventOf s x a t ∷ history t cs xs
+unfolding history
+history-next next = rw (next .first, ← next .did)

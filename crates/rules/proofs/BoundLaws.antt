@@ -72,7 +72,7 @@ calls-none i (e ∷ es) c =
     )
 
 -- and where there is none they hold
-none-calls : (es : List Event) → anyEvent otherStep es ≡ false → anyEvent disabledStep es ≡ false → Calls es
+pub none-calls : (es : List Event) → anyEvent otherStep es ≡ false → anyEvent disabledStep es ≡ false → Calls es
 unfolding anyEvent
 none-calls [] o d = tt
 none-calls (e ∷ es) o d = (

@@ -1,7 +1,7 @@
 -- Demand 3's premises can be met, and its bound is met exactly: a list of calls that needs H + E + 1 arbitrations. What must not count is there too:
 -- a masked source above ours and one that ours outranks, both pending and triggered, a trigger of ours, and a refused one. Assumes nothing.
-use mathlib.Core.Path.{_≡_, refl, sym, ap, ap₂, _∙_}
-use mathlib.Core.Bool.{Bool, true, false, not, _&&_, _||_}
+use mathlib.Core.Path.{_≡_, refl, ap₂, _∙_}
+use mathlib.Core.Bool.{true, false, not}
 use mathlib.Core.List.{List, [], _∷_, _++_}
 use Prim.Native.Nat.{ℕ, _+_}
 use lib.Dec.{lit<}
@@ -14,7 +14,7 @@ use Rattle.rules.specs.declared.Step.the-variants as step
 use Rattle.rules.specs.declared.Trigger.the-variants as trigger
 use Rattle.rules.specs.declared.Waited.the-variants as waited
 use Rattle.rules.specs.declared.Bounded.the-variants as bounded
-use Rattle.rules.specs.Image.{Image, state, has, IEN, pageByte, put, CICR, EIPR, EIMR, EIPLR}
+use Rattle.rules.specs.Image.{Image, state, pageByte, put, CICR, EIPR, EIMR, EIPLR}
 use Rattle.rules.specs.Channels.{idcrByte, ivrByte, dcprByte, daprByte, dataByte, recordsOk, member, distinct, allBytes, listOk}
 use Rattle.rules.specs.Sources.{sources, pendingBit, pending, unmasked, dmaEnabled, externalLevel, level}
 use Rattle.rules.specs.Triggers.{triggerVerdict, selects, selectsTop, sourceEffect, raiseSource, topEffect, raiseTop, fire, triggerOf}
@@ -22,12 +22,11 @@ use Rattle.rules.specs.Requests.{requestOf, eligible, isAt, wonBy, candi
 use Rattle.rules.specs.Arbitration.{vectorOf, cleared, acknowledged, granted, topLevel, arbitration, arbitrateOf}
 use Rattle.rules.specs.Return.{returned, returnOf}
 use Rattle.rules.specs.Steps.{lentVerdict, actOf, stepOf}
-use Rattle.rules.specs.Runs.{until, lastAnswer, stateAfter, waitEvents, waitReport, waitVerdict, waitOf, Event, anyEvent, counted, history, acknowledgedIn, arbitrationsIn, isArbitration}
-use Rattle.rules.specs.Waiting.{outranks, rival, countBelow, pendingOf, H, E, Start, isCall, Calls}
+use Rattle.rules.specs.Runs.{until, lastAnswer, stateAfter, waitEvents, waitReport, waitVerdict, waitOf, Event, anyEvent, counted, history, acknowledgedIn, arbitrationsIn}
+use Rattle.rules.specs.Waiting.{outranks, rival, countBelow, pendingOf, H, E, Start, Calls}
 use Rattle.rules.specs.Bounds.{boundOf}
 use Rattle.rules.specs.Examples.{image, channel, _↤_}
-use Rattle.rules.proofs.Bools.{and-l, and-r}
-use Rattle.rules.proofs.BoundLaws.{bound-given}
+use Rattle.rules.proofs.BoundLaws.{none-calls, bound-given}
 
 -- CPL is 7, IEN 0 and TLIP 1. INTA0, the record and INTB0 are at level 0, INTA1 and INTB1 at level 1; all five are pending, and all but INTB0
 -- unmasked. Byte 240, which no rule reads, has what the record's IDCR has: where a record isn't there the definitions read that byte, so that a
@@ -79,31 +78,12 @@ starts =
       above = lit< tt;
     }
 
--- `Calls` as a test
-abbrev callTest : Event → Bool
-callTest e = isCall (e .step) && (not (isArbitration (e .step)) || has (e .before .image) IEN)
-
-abbrev callsTest : List Event → Bool
-callsTest [] = true
-callsTest (e ∷ es) = callTest e && callsTest es
-
-calls-by : (es : List Event) → callsTest es ≡ true → Calls es
-calls-by [] h = tt
-calls-by (e ∷ es) h =
-    let t = and-l (callTest e) (callsTest es) h in
-    let is = isCall (e .step) in
-    let on = not (isArbitration (e .step)) || has (e .before .image) IEN in (
-      λ f. and-l is on t,
-      λ a. ap (λ (x : Bool). not x || has (e .before .image) IEN) (sym a) ∙ and-r is on t,
-      calls-by es (and-r (callTest e) (callsTest es) h),
-    )
-
 -- a start and a list of calls as demand 3 asks, with H = 2 and E = 2: ours is not acknowledged among the first four arbitrations, and is by the fifth
 pub tight : Start start channels ours × Calls events × (H start channels ours ≡ 2) × (E start channels ours events ≡ 2)
     × (arbitrationsIn (take 15 events) ≡ 4) × (acknowledgedIn ours (take 15 events) ≡ false)
     × (arbitrationsIn events ≡ 5) × (acknowledgedIn ours events ≡ true)
 unfolding start image digit bit putBit pageByte put idcrByte ivrByte dcprByte daprByte dataByte recordsOk member distinct allBytes listOk sources pendingBit pending unmasked dmaEnabled externalLevel level triggerVerdict selects selectsTop sourceEffect raiseSource topEffect raiseTop fire triggerOf requestOf eligible isAt wonBy candidate first winnerOfKind winnerAtLevel winnerOf vectorOf cleared acknowledged granted topLevel arbitration arbitrateOf returned returnOf lentVerdict actOf stepOf history outranks rival countBelow pendingOf anyEvent counted
-tight = (starts, calls-by events refl, refl, refl, refl, refl, refl, refl)
+tight = (starts, none-calls events refl refl, refl, refl, refl, refl, refl, refl)
 
 -- the bound that is answered for it is H + E + 1
 pub bound-tight : boundOf (state start) channels ours steps ≡ bounded.Within 2 2 5
@@ -119,4 +99,4 @@ pub wait-tight : Calls (waitEvents (state start) channels ours accepted)
     × (H start channels ours + E start channels ours (waitEvents (state start) channels ours accepted) ≡ 4)
     × (waitOf (state start) channels ours accepted .answer ≡ waited.Acknowledged 5)
 unfolding start image digit bit putBit pageByte put idcrByte ivrByte dcprByte daprByte dataByte recordsOk member distinct allBytes listOk sources pendingBit pending unmasked dmaEnabled externalLevel level triggerVerdict selects selectsTop sourceEffect raiseSource topEffect raiseTop fire triggerOf requestOf eligible isAt wonBy candidate first winnerOfKind winnerAtLevel winnerOf vectorOf cleared acknowledged granted topLevel arbitration arbitrateOf returned returnOf lentVerdict actOf stepOf history outranks rival countBelow pendingOf anyEvent counted until lastAnswer stateAfter waitReport waitVerdict waitOf
-wait-tight = (calls-by (waitEvents (state start) channels ours accepted) refl, refl, refl)
+wait-tight = (none-calls (waitEvents (state start) channels ours accepted) refl refl, refl, refl)
