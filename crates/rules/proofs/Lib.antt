@@ -2,6 +2,7 @@ pub mod Bools
 pub mod ImageLaws
 pub mod ChannelLaws
 pub mod ListLaws
+pub mod PackedLaws
 pub mod Twelve
 pub mod PlaceLaws
 pub mod WriteLaws

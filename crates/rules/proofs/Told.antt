@@ -18,9 +18,11 @@ use Rattle.rules.specs.declared.Waited.{Waited}
 use Rattle.rules.specs.declared.Waited.the-variants as waited
 use Rattle.rules.specs.declared.Bounded.{Bounded}
 use Rattle.rules.specs.declared.Bounded.the-variants as bounded
+use Rattle.rules.specs.declared.Flat.{Flat}
 use Rattle.rules.specs.Registers.{losses}
 use Rattle.rules.specs.Runs.{oneIf}
-use Rattle.rules.specs.Answers.{refusalNumber, toldVerdict, effectNumber, Told, told, ToldRun, toldRun, toldWait, toldBound}
+use Rattle.rules.specs.Promises.{Tells}
+use Rattle.rules.specs.Answers.{refusalNumber, toldVerdict, effectNumber, told, toldRun, toldWait, toldBound}
 
 -- a function with a way back is injective
 injective : {A B : Type 0} (f : A → B) (g : B → A) → ((a : A) → g (f a) ≡ a) → (a b : A) → f a ≡ f b → a ≡ b
@@ -84,17 +86,17 @@ one-back : (b : Bool) → eqb (oneIf b) 1 ≡ b
 one-back true = refl
 one-back false = refl
 
-abbrev answerAt : Told → Answer
+abbrev answerAt : Flat → Answer
 answerAt t =
-    cond (eqb (t .number) 0) answer.NoStep
-    (cond (eqb (t .number) 1) (answer.Byte (t .first))
-    (cond (eqb (t .number) 2) (answer.Written (losses (t .first)))
-    (cond (eqb (t .number) 3) (answer.Triggered (effectAt (t .first)) (effectAt (t .second)))
-    (cond (eqb (t .number) 4) answer.Nothing
-    (cond (eqb (t .number) 5) answer.TopLevel
-    (cond (eqb (t .number) 6) (answer.Interrupt (t .first) (t .second) (t .third))
-    (cond (eqb (t .number) 7) (answer.Transferred (t .first) (eqb (t .second) 1))
-    (cond (eqb (t .number) 8) answer.Returned (cond (eqb (t .number) 9) answer.Reset (answer.Refused (refusalAt (t .first))))))))))))
+    cond (eqb (t .kind) 0) answer.NoStep
+    (cond (eqb (t .kind) 1) (answer.Byte (t .first))
+    (cond (eqb (t .kind) 2) (answer.Written (losses (t .first)))
+    (cond (eqb (t .kind) 3) (answer.Triggered (effectAt (t .first)) (effectAt (t .second)))
+    (cond (eqb (t .kind) 4) answer.Nothing
+    (cond (eqb (t .kind) 5) answer.TopLevel
+    (cond (eqb (t .kind) 6) (answer.Interrupt (t .first) (t .second) (t .third))
+    (cond (eqb (t .kind) 7) (answer.Transferred (t .first) (eqb (t .second) 1))
+    (cond (eqb (t .kind) 8) answer.Returned (cond (eqb (t .kind) 9) answer.Reset (answer.Refused (refusalAt (t .refusal))))))))))))
 
 answer-back : (a : Answer) → answerAt (told a) ≡ a
 answer-back answer.NoStep = refl
@@ -109,8 +111,8 @@ answer-back answer.Returned = refl
 answer-back answer.Reset = refl
 answer-back (answer.Refused r) = ap answer.Refused (refusal-back r)
 
--- the values: the top level's vector is 04h; a refusal's is its number
-pub told-values : (r : Refusal) → (told answer.TopLevel .first ≡ 0x04) × (told (answer.Refused r) .first ≡ refusalNumber r)
+-- the values: the top level's vector is 04h; a refusal's number is document 01's
+pub told-values : (r : Refusal) → (told answer.TopLevel .third ≡ 0x04) × (told (answer.Refused r) .refusal ≡ refusalNumber r)
 told-values r = (refl, refl)
 
 -- no two answers are told alike
@@ -119,25 +121,39 @@ told-injective = injective told answerAt answer-back
 
 -- ---- runs and wait reports
 
-abbrev ranAt : ToldRun → Ran
+abbrev ranAt : Flat → Ran
 ranAt t =
-    cond (eqb (t .number) 0) (ran.Refused (refusalAt (t .refusal)))
-    (cond (eqb (t .number) 1) (ran.RefusedAt (refusalAt (t .refusal)) (t .steps)) (ran.Done (t .steps) (answerAt (t .last))))
+    cond (eqb (t .kind) 11) (ran.Refused (refusalAt (t .refusal)))
+    (cond (eqb (t .kind) 12) (ran.RefusedAt (refusalAt (t .refusal)) (t .steps)) (ran.Done (t .steps) (answerAt t)))
+
+-- no answer of a step has the kind of a run's refusal
+step-kind : (a : Answer) → (eqb (told a .kind) 11 ≡ false) × (eqb (told a .kind) 12 ≡ false)
+step-kind answer.NoStep = (refl, refl)
+step-kind (answer.Byte b) = (refl, refl)
+step-kind (answer.Written l) = (refl, refl)
+step-kind (answer.Triggered e f) = (refl, refl)
+step-kind answer.Nothing = (refl, refl)
+step-kind answer.TopLevel = (refl, refl)
+step-kind (answer.Interrupt s l v) = (refl, refl)
+step-kind (answer.Transferred s e) = (refl, refl)
+step-kind answer.Returned = (refl, refl)
+step-kind answer.Reset = (refl, refl)
+step-kind (answer.Refused r) = (refl, refl)
 
 ran-back : (r : Ran) → ranAt (toldRun r) ≡ r
 ran-back (ran.Refused r) = ap ran.Refused (refusal-back r)
 ran-back (ran.RefusedAt r i) = ap (λ (q : Refusal). ran.RefusedAt q i) (refusal-back r)
-ran-back (ran.Done n a) = ap (ran.Done n) (answer-back a)
+ran-back (ran.Done n a) = rw (step-kind a .0, step-kind a .1) (ap (ran.Done n) (answer-back a))
 
 -- no two answers of a run are told alike
 pub told-run-injective : (a b : Ran) → toldRun a ≡ toldRun b → a ≡ b
 told-run-injective = injective toldRun ranAt ran-back
 
-abbrev waitedAt : Told → Waited
+abbrev waitedAt : Flat → Waited
 waitedAt t =
-    cond (eqb (t .number) 0) (waited.Refused (refusalAt (t .first)))
-    (cond (eqb (t .number) 1) (waited.RefusedAt (refusalAt (t .first)) (t .second) (t .third))
-    (cond (eqb (t .number) 2) (waited.Ended (t .first)) (waited.Acknowledged (t .first))))
+    cond (eqb (t .kind) 11) (waited.Refused (refusalAt (t .refusal)))
+    (cond (eqb (t .kind) 12) (waited.RefusedAt (refusalAt (t .refusal)) (t .steps) (t .first))
+    (cond (eqb (t .kind) 13) (waited.Ended (t .first)) (waited.Acknowledged (t .first))))
 
 waited-back : (w : Waited) → waitedAt (toldWait w) ≡ w
 waited-back (waited.Refused r) = ap waited.Refused (refusal-back r)
@@ -151,18 +167,18 @@ told-wait-injective = injective toldWait waitedAt waited-back
 
 -- ---- the bound
 
-abbrev boundedAt : Told → Bounded
+abbrev boundedAt : Flat → Bounded
 boundedAt t =
-    cond (eqb (t .number) 0) (bounded.Refused (refusalAt (t .first)))
-    (cond (eqb (t .number) 1) bounded.Nested
-    (cond (eqb (t .number) 2) bounded.DmaEnabled
-    (cond (eqb (t .number) 3) bounded.TopLevelEnabled
-    (cond (eqb (t .number) 4) bounded.TopLevelInService
-    (cond (eqb (t .number) 5) bounded.NotPending
-    (cond (eqb (t .number) 6) bounded.Masked
-    (cond (eqb (t .number) 7) bounded.LevelNotAbove
-    (cond (eqb (t .number) 8) (bounded.OtherStep (t .first))
-    (cond (eqb (t .number) 9) (bounded.InterruptsDisabled (t .first)) (bounded.Within (t .first) (t .second) (t .third)))))))))))
+    cond (eqb (t .kind) 11) (bounded.Refused (refusalAt (t .refusal)))
+    (cond (eqb (t .kind) 15) bounded.Nested
+    (cond (eqb (t .kind) 16) bounded.DmaEnabled
+    (cond (eqb (t .kind) 17) bounded.TopLevelEnabled
+    (cond (eqb (t .kind) 18) bounded.TopLevelInService
+    (cond (eqb (t .kind) 19) bounded.NotPending
+    (cond (eqb (t .kind) 20) bounded.Masked
+    (cond (eqb (t .kind) 21) bounded.LevelNotAbove
+    (cond (eqb (t .kind) 22) (bounded.OtherStep (t .steps))
+    (cond (eqb (t .kind) 23) (bounded.InterruptsDisabled (t .steps)) (bounded.Within (t .first) (t .second) (t .third)))))))))))
 
 bounded-back : (b : Bounded) → boundedAt (toldBound b) ≡ b
 bounded-back (bounded.Refused r) = ap bounded.Refused (refusal-back r)
@@ -180,3 +196,9 @@ bounded-back (bounded.Within h e k) = refl
 -- no two answers of a bound are told alike
 pub told-bound-injective : (a b : Bounded) → toldBound a ≡ toldBound b → a ≡ b
 told-bound-injective = injective toldBound boundedAt bounded-back
+
+-- ---- numbers that tell an answer
+
+-- where a promise is that an answer is told as b is, numbers that tell one that keeps it are those of b
+pub tells-same : {A : Type 0} (tells : A → Flat) (b : A) (P : A → Type 0) → ((a : A) → P a → tells a ≡ tells b) → (f : Flat) → Tells tells P f → f ≡ tells b
+tells-same tells b P same f (a, e, p) = e ∙ same a p

@@ -2,9 +2,9 @@
 -- Assumes nothing.
 use mathlib.Core.Bool.{Bool, true, false, cond, not, _&&_, _||_}
 use mathlib.Core.List.{List, [], _∷_, _++_}
-use Prim.Native.Nat.{ℕ}
+use Prim.Native.Nat.{ℕ, zero, suc, _/_, _%_}
 use lib.Dec.{eqb, ltb, leb}
-use lib.ListN.{length, getD, take}
+use lib.ListN.{length, getD, take, drop, replicate}
 use Rattle.rules.specs.declared.Channel.{Channel}
 use Rattle.rules.specs.declared.Channels.{Channels}
 use Rattle.rules.specs.declared.Places.{Places}
@@ -83,3 +83,32 @@ listOk cs = leb (length cs) mostRecords && recordsOk cs && distinct (allBytes cs
 -- the list that a list by value stands for: its first `count` items, or one of thirteen, which no rule allows
 unfoldable pub listOf : Channels → List Channel
 listOf all = cond (ltb mostRecords (all .count)) (all .items ++ (noChannel ∷ [])) (take (all .count) (all .items))
+
+-- ---- a list lent as bytes, as C has it
+
+-- a record as seven bytes: page, IDCR, IVR, DCPR, DAPR, data, direction; records one after another
+unfoldable pub bytesOf : List Channel → List ℕ
+bytesOf [] = []
+bytesOf (c ∷ cs) = c .page ∷ c .idcr ∷ c .ivr ∷ c .dcpr ∷ c .dapr ∷ c .io ∷ c .direction ∷ bytesOf cs
+
+-- the record that the first seven bytes are
+abbrev pub recordIn : List ℕ → Channel
+recordIn bs =
+    record {
+      page = getD bs 0 0;
+      idcr = getD bs 1 0;
+      ivr = getD bs 2 0;
+      dcpr = getD bs 3 0;
+      dapr = getD bs 4 0;
+      io = getD bs 5 0;
+      direction = getD bs 6 0;
+    }
+
+-- the n records that they begin with
+unfoldable pub recordsIn : ℕ → List ℕ → List Channel
+recordsIn zero bs = []
+recordsIn (suc n) bs = recordIn bs ∷ recordsIn n (drop 7 bs)
+
+-- the list that bytes stand for: the one that they are the bytes of; one of thirteen records, which no rule allows, where their number is no multiple of seven
+unfoldable pub listIn : List ℕ → List Channel
+listIn bs = cond (eqb (length bs % 7) 0) (recordsIn (length bs / 7) bs) (replicate 13 noChannel)

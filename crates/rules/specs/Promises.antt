@@ -12,6 +12,7 @@ use Rattle.rules.specs.declared.Verdict.{Verdict}
 use Rattle.rules.specs.declared.Ran.{Ran}
 use Rattle.rules.specs.declared.Waited.{Waited}
 use Rattle.rules.specs.declared.Bounded.{Bounded}
+use Rattle.rules.specs.declared.Flat.{Flat}
 use Rattle.rules.specs.Image.{Image, state}
 use Rattle.rules.specs.Registers.{viewOf, viewVerdict}
 use Rattle.rules.specs.Outcomes.{outcome}
@@ -109,3 +110,9 @@ Views before p part = part ≡ viewOf before p
 -- the number of a refused view, 0 for an accepted one
 abbrev pub ViewRefuses : Image → ℕ → Verdict → Type 0
 ViewRefuses before p v = toldVerdict v ≡ toldVerdict (viewVerdict before p)
+
+-- ---- the exports for C: each answers in numbers what a public function of the same arguments promises, with the channel list as bytes (Channels `listIn`)
+
+-- f tells an answer that keeps the promise P
+abbrev pub Tells : {A : Type 0} → (A → Flat) → (A → Type 0) → Flat → Type 0
+Tells {A} tells P f = (a : A) × (f ≡ tells a) × P a

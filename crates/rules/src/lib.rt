@@ -6,6 +6,9 @@ pub const IMAGE_LENGTH: usize = 1265;
 // The most records of a channel list.
 pub const MOST_RECORDS: usize = 12;
 
+// The bytes of a record in a channel list that is lent as bytes.
+pub const RECORD_BYTES: usize = 7;
+
 // The rows of the register table.
 pub const ROW_COUNT: usize = 22;
 
@@ -219,4 +222,16 @@ pub enum Bounded {
         triggers: usize,
         bound: usize,
     },
+}
+
+// An answer as numbers, as C has it: its kind, document 01's number where something is refused (else 0), the steps done or the index of a step, and the
+// values of its kind. specs/Answers says which.
+#[repr(C)]
+pub struct Flat {
+    pub kind: u64,
+    pub refusal: u64,
+    pub steps: u64,
+    pub first: u64,
+    pub second: u64,
+    pub third: u64,
 }

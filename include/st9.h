@@ -1,0 +1,263 @@
+/*
+ * The ST92F150's interrupt and DMA registers: a model that is proved against its rules, for C (from C11 on) and C++.
+ * Link target/staticlib/libst9.a, which `rt staticlib st9` writes.
+ *
+ * The caller lends an image of 1,265 bytes and a channel list. Every image, list, number and step word gets an answer; a bad one is refused
+ * with the number of document 01, and then every byte stays as it was.
+ *
+ * What the caller sees to: each pointer has as many readable elements as the length beside it says (the image of st9_step, st9_run and st9_wait
+ * writable too), the words are aligned, the image overlaps neither the list nor the words, and nobody else writes any of them during the call.
+ * A pointer may be null where its length is 0.
+ */
+#ifndef ST9_H
+#define ST9_H
+
+#include <stddef.h>
+#include <stdint.h>
+
+#ifdef __cplusplus
+extern "C" {
+#endif
+
+/* The bytes of an image: R0 to R239, then R240 to R255 of pages 0 to 63, then the top-level-in-service mark. */
+#define ST9_IMAGE_LENGTH 1265
+
+/* The byte of the mark: not 0 where the top level is in service. */
+#define ST9_MARK 1264
+
+/* The most records of a channel list. */
+#define ST9_MOST_CHANNELS 12
+
+/* The bytes of a record. */
+#define ST9_CHANNEL_BYTES 7
+
+/* The byte of an image that register r (240 to 255) of page p (0 to 63) has. A register below 240 has the byte of its number. */
+#define ST9_PAGED(p, r) (240 + 16 * (p) + ((r) - 240))
+
+/* The registers that document 01 names, by their number; those from ST9_EITR on are of page 0. */
+enum st9_register {
+    ST9_CICR = 230,
+    ST9_PPR = 234,
+    ST9_MODER = 235,
+    ST9_EITR = 242,
+    ST9_EIPR = 243,
+    ST9_EIMR = 244,
+    ST9_EIPLR = 245,
+    ST9_EIVR = 246,
+    ST9_NICR = 247
+};
+
+/* The sources. Record k of the channel list is source ST9_FIRST_CHANNEL + k. Pin k, 0 to 7, is that of source k. */
+enum st9_source {
+    ST9_INTA0 = 0,
+    ST9_INTA1 = 1,
+    ST9_INTB0 = 2,
+    ST9_INTB1 = 3,
+    ST9_INTC0 = 4,
+    ST9_INTC1 = 5,
+    ST9_INTD0 = 6,
+    ST9_INTD1 = 7,
+    ST9_FIRST_CHANNEL = 8
+};
+
+/* The direction of an edge. */
+enum st9_edge {
+    ST9_FALLING = 0,
+    ST9_RISING = 1
+};
+
+/* The direction of a record's transfers. */
+enum st9_direction {
+    ST9_TO_REGISTER_FILE = 0,
+    ST9_TO_PERIPHERAL = 1
+};
+
+/*
+ * A record of the channel list: a page of 1 to 63, five register numbers of 240 to 255 there, and a direction. A list passes as its bytes, seven a
+ * record, and their number: (const uint8_t *)list, sizeof list.
+ */
+typedef struct st9_channel {
+    uint8_t page;
+    uint8_t idcr;
+    uint8_t ivr;
+    uint8_t dcpr;
+    uint8_t dapr;
+    uint8_t data;
+    uint8_t direction;
+} st9_channel;
+
+/* The refusals of document 01, in the field `refusal` of an answer. */
+enum st9_refusal {
+    ST9_ACCEPTED = 0,         /* nothing was refused */
+    ST9_BAD_LENGTH = 1,       /* the image's length is not 1,265 */
+    ST9_BAD_LIST = 2,         /* the channel list breaks a rule, or its bytes are no whole number of records */
+    ST9_BAD_REGISTER = 3,     /* a register that is not modelled or over 255; a viewed page over 63 */
+    ST9_BAD_NUMBER = 4,       /* a pin over 7, a direction over 1, a record or a source that isn't there */
+    ST9_MEMORY_TRANSFER = 5,  /* the DMA winner has DCPR bit 0 = 0 (memory) */
+    ST9_BAD_POINTER = 6,      /* the DMA winner has a pointer pair or an address over 223 */
+    ST9_UNKNOWN_KIND = 7      /* a kind of step or of trigger that is unknown */
+};
+
+/* What a trigger did to a pending bit. */
+enum st9_effect {
+    ST9_NOT_SELECTED = 0,
+    ST9_RAISED = 1,
+    ST9_MERGED = 2  /* the bit was 1 already */
+};
+
+/* What is answered, in the field `kind`; beside each the fields that it fills. Every other field is 0. */
+enum st9_kind {
+    /* Of a step, and of the last step of a run that was done; of a run with `steps`, the steps done. */
+    ST9_NO_STEP = 0,      /* a run of no steps */
+    ST9_BYTE = 1,         /* a read: byte */
+    ST9_WRITTEN = 2,      /* a write: lost, the EIPR bits that it took from 1 to 0 */
+    ST9_TRIGGERED = 3,    /* a trigger: maskable and tlip, what it did to the maskable bit and to TLIP (enum st9_effect) */
+    ST9_NOTHING = 4,      /* an arbitration that found nothing */
+    ST9_TOP_LEVEL = 5,    /* an arbitration that acknowledged the top level: vector */
+    ST9_INTERRUPT = 6,    /* an arbitration that acknowledged an interrupt: source, level, vector */
+    ST9_TRANSFERRED = 7,  /* an arbitration that served DMA: source, ended (1: the block's last byte) */
+    ST9_RETURNED = 8,     /* a return */
+    ST9_RESET = 9,        /* a reset */
+    ST9_REFUSED = 10,     /* a step that was refused: refusal */
+    /* Of a run, a wait report and a bound. */
+    ST9_REFUSED_CALL = 11,  /* refused before any step: refusal */
+    ST9_REFUSED_STEP = 12,  /* a run or a wait refused at a step: refusal, steps (its index, from 0); of a wait arbitrations, those made before it */
+    /* Of a wait report. */
+    ST9_ENDED = 13,         /* the list ended first: arbitrations */
+    ST9_ACKNOWLEDGED = 14,  /* the source was acknowledged: arbitrations, the last included */
+    /* Of a bound: the first premise of demand 3 that fails, */
+    ST9_NESTED = 15,                /* nested mode (IAM = 1) */
+    ST9_DMA_ENABLED = 16,           /* a record has DM = 1 */
+    ST9_TOP_LEVEL_ENABLED = 17,     /* TLNM or TLI is 1 */
+    ST9_TOP_LEVEL_IN_SERVICE = 18,  /* the mark is set */
+    ST9_NOT_PENDING = 19,           /* the source is not pending, */
+    ST9_MASKED = 20,                /* is masked, */
+    ST9_LEVEL_NOT_ABOVE = 21,       /* or its level is not above the current one */
+    ST9_OTHER_STEP = 22,            /* a step that is no trigger, arbitration or return: steps, its index */
+    ST9_INTERRUPTS_DISABLED = 23,   /* an arbitration with IEN = 0: steps, its index */
+    /* or, where all hold, */
+    ST9_WITHIN = 24  /* outranking (H), triggers (E), bound (H + E + 1): acknowledged by that arbitration at the latest */
+};
+
+/* An answer. The names in one union are one number: `kind` says which it is. */
+typedef struct st9_answer {
+    uint64_t kind;     /* enum st9_kind */
+    uint64_t refusal;  /* enum st9_refusal: 0 where nothing was refused */
+    uint64_t steps;
+    union {
+        uint64_t first;
+        uint64_t byte;
+        uint64_t lost;
+        uint64_t maskable;
+        uint64_t source;
+        uint64_t arbitrations;
+        uint64_t outranking;
+    };
+    union {
+        uint64_t second;
+        uint64_t tlip;
+        uint64_t level;
+        uint64_t ended;
+        uint64_t triggers;
+    };
+    union {
+        uint64_t third;
+        uint64_t vector;
+        uint64_t bound;
+    };
+} st9_answer;
+
+/* One step. A refused one changes nothing. */
+st9_answer st9_step(uint8_t *image, size_t image_length, const uint8_t *channels, size_t channels_length, uint64_t word);
+
+/* The steps one after another, up to the first that is refused; the image is left as the steps before it left it. */
+st9_answer st9_run(uint8_t *image, size_t image_length, const uint8_t *channels, size_t channels_length, const uint64_t *words, size_t word_count);
+
+/* The wait report: the steps up to the acknowledgement of a source by an interrupt, with the arbitrations counted. */
+st9_answer st9_wait(uint8_t *image, size_t image_length, const uint8_t *channels, size_t channels_length, uint32_t source, const uint64_t *words, size_t word_count);
+
+/* Demand 3's bound for a source over the steps: by which arbitration it is acknowledged at the latest, or why nothing is promised. The image is only read. */
+st9_answer st9_bound(const uint8_t *image, size_t image_length, const uint8_t *channels, size_t channels_length, uint32_t source, const uint64_t *words, size_t word_count);
+
+/* The number that the view of a page is refused with (1, then 3), or 0. */
+uint64_t st9_view_number(const uint8_t *image, size_t image_length, uint32_t page);
+
+/* The sixteen bytes of a page, as stored: a part of the image itself. Null where the view is refused. */
+static inline const uint8_t *st9_view(const uint8_t *image, size_t image_length, uint32_t page)
+{
+    return st9_view_number(image, image_length, page) == 0 ? image + ST9_PAGED(page, 240) : NULL;
+}
+
+/* ---- Step words: kind * 2^48 + trigger * 2^32 + first * 2^8 + second. */
+
+/* Any kind (16 bits), trigger kind (16 bits), first (24 bits) and second (8 bits); higher bits are cut off. */
+static inline uint64_t st9_word(uint64_t kind, uint64_t trigger, uint64_t first, uint64_t second)
+{
+    return (kind & 0xFFFF) << 48 | (trigger & 0xFFFF) << 32 | (first & 0xFFFFFF) << 8 | (second & 0xFF);
+}
+
+/* A number of a step as a word has room for it: one that does not fit becomes the largest that does, which is refused likewise. */
+static inline uint64_t st9_fit(uint64_t number, uint64_t largest)
+{
+    return number < largest ? number : largest;
+}
+
+/* A read of register `reg`. */
+static inline uint64_t st9_read(uint32_t reg)
+{
+    return st9_word(0, 0, st9_fit(reg, 0xFFFFFF), 0);
+}
+
+/* A write of a value to register `reg`. No byte is over 255: such a value makes a word of unknown kind, which is refused with 7. */
+static inline uint64_t st9_write(uint32_t reg, uint32_t value)
+{
+    return value > 0xFF ? st9_word(0xFFFF, 0, 0, 0) : st9_word(1, 0, st9_fit(reg, 0xFFFFFF), value);
+}
+
+/* An edge at a pin, 0 to 7. */
+static inline uint64_t st9_pin_edge(uint32_t pin, uint32_t direction)
+{
+    return st9_word(2, 0, st9_fit(pin, 0xFFFFFF), st9_fit(direction, 0xFF));
+}
+
+/* The watchdog's end of count. */
+static inline uint64_t st9_watchdog(void)
+{
+    return st9_word(2, 1, 0, 0);
+}
+
+/* An edge at NMI. */
+static inline uint64_t st9_nmi_edge(uint32_t direction)
+{
+    return st9_word(2, 2, 0, st9_fit(direction, 0xFF));
+}
+
+/* A request of record `record` of the channel list, from 0. */
+static inline uint64_t st9_request(uint32_t record)
+{
+    return st9_word(2, 3, st9_fit(record, 0xFFFFFF), 0);
+}
+
+/* An arbitration. */
+static inline uint64_t st9_arbitrate(void)
+{
+    return st9_word(3, 0, 0, 0);
+}
+
+/* A return from an interrupt. */
+static inline uint64_t st9_return(void)
+{
+    return st9_word(4, 0, 0, 0);
+}
+
+/* A reset. */
+static inline uint64_t st9_reset(void)
+{
+    return st9_word(5, 0, 0, 0);
+}
+
+#ifdef __cplusplus
+}
+#endif
+
+#endif
