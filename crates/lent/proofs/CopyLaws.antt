@@ -1,17 +1,18 @@
 -- What a copy of a lent channel list stands for, and the turns of the loop that makes it. Assumes nothing.
 use mathlib.Core.Path.{_≡_, refl, sym, ap, _∙_}
+use mathlib.Core.Logic.{_≢_}
 use mathlib.Core.Bool.{Bool, true, false, cond}
 use mathlib.Core.List.{List, [], _∷_, _++_}
-use Prim.Native.Nat.{ℕ, zero, suc, _+_, _≤_, _<_}
+use Prim.Native.Nat.{ℕ, zero, suc, _+_, _%_, _≤_, _<_}
 use native.Mathlib.Omega.{arith}
 use native.Mathlib.Numerals.{add-one}
 use lib.Dec.{leb, ltb}
 use lib.ListN.{length, getD, take, length-set, length-append}
 use lib.Seq.{take-suc, take-suc-set, take-length}
-use borrow.Author.Tests.{leb-true, leb-false, le-leb, lt-leb, lt-ltb, le-ltb}
+use borrow.Author.Tests.{leb-true, leb-false, le-leb, lt-leb, lt-ltb, le-ltb, ne-eqb}
 use Rattle.rules.specs.declared.Channel.{Channel}
 use Rattle.rules.specs.declared.Channels.{Channels}
-use Rattle.rules.specs.Channels.{mostRecords, noChannel, listOf}
+use Rattle.rules.specs.Channels.{mostRecords, noChannel, listOf, listIn}
 use Rattle.lent.specs.Copies.{capped, blankOf, putOf, copiedUpTo, copyOf}
 
 -- ---- the count
@@ -118,3 +119,10 @@ through f alike cs = go (leb (length cs) mostRecords) refl
     go : (t : Bool) → leb (length cs) mostRecords ≡ t → f (listOf (copyOf cs)) ≡ f cs
     go true e = ap f (list-of-copy cs (leb-true (length cs) mostRecords e))
     go false e = let l : mostRecords < length cs = leb-false (length cs) mostRecords e in alike (listOf (copyOf cs)) cs (list-of-long cs l) l
+
+-- ---- a list lent as bytes
+
+-- bytes that are no whole number of records are kept as a count of thirteen with nothing put
+pub blank-rest : (bs : List ℕ) → length bs % 7 ≢ 0 → blankOf 13 ≡ copyOf (listIn bs)
+unfolding listIn copyOf copiedUpTo
+blank-rest bs rest = rw (ne-eqb _ _ rest) refl

@@ -1,8 +1,12 @@
-// The lent channel list, copied into a list by value.
+// The lent channel list, copied into a list by value: from a slice of records, or from bytes as C lends it.
 use rules::Channel;
 use rules::Channels;
 use rules::MOST_RECORDS;
+use rules::RECORD_BYTES;
 ghost use mathlib.Core.Path.{_≡_};
+ghost use Prim.Native.Nat.{_+_, _*_, _<_};
+ghost use lib.ListN.{length, drop};
+ghost use Rattle.rules.specs.Channels.{recordIn, listIn};
 ghost use Rattle.lent.specs.Copies.{blankOf, putOf, copyOf};
 
 // A list by value with nothing put yet. A count over twelve is kept as thirteen.
@@ -51,6 +55,41 @@ pub fn copied(cs: &[Channel]) -> Channels
     let mut i: usize = 0;
     while i < all.count {
         all = put(all, i, cs[i]);
+        i += 1;
+    }
+    all
+}
+
+// Record i of the bytes.
+fn record_at(bytes: &[u8], i: usize) -> Channel
+    requires { ⌜ (i < 13) × (7 * i + 6 < length (now bytes)) ⌝ }
+    ensures { λ c. ⌜ c ≡ recordIn (drop (7 * i) (now (bytes .entry))) ⌝ }
+{
+    let start = RECORD_BYTES * i;
+    Channel {
+        page: bytes[start],
+        idcr: bytes[start + 1],
+        ivr: bytes[start + 2],
+        dcpr: bytes[start + 3],
+        dapr: bytes[start + 4],
+        io: bytes[start + 5],
+        direction: bytes[start + 6],
+    }
+}
+
+// The list that bytes stand for, seven a record, by value: a count of thirteen where there are more than twelve records, or no whole number of them.
+pub fn unpacked(bytes: &[u8]) -> Channels
+    ensures { λ all. ⌜ all ≡ copyOf (listIn (now (bytes .entry))) ⌝ }
+{
+    if bytes.len() % RECORD_BYTES != 0 {
+        return blank(MOST_RECORDS + 1);
+    }
+    let mut all = blank(bytes.len() / RECORD_BYTES);
+    let n = all.count;
+    let mut i: usize = 0;
+    while i < n {
+        let c = record_at(bytes, i);
+        all = put(all, i, c);
         i += 1;
     }
     all

@@ -1,5 +1,7 @@
 // The public library. Each function takes the image and the channel list as they are lent, whatever they are, and answers for them: a bad one is refused with
-// document 01's number and every byte stays.
+// document 01's number and every byte stays. The same for C is in `exports`.
+mod exports;
+
 use lent::copied;
 use rules::Answer;
 use rules::Bounded;

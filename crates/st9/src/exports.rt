@@ -1,0 +1,60 @@
+// The functions for C (include/st9.h): the channel list is lent as bytes, seven a record, and the answer is told in numbers.
+use answers::of_bound;
+use answers::of_run;
+use answers::of_step;
+use answers::of_wait;
+use answers::verdict_number;
+use lent::unpacked;
+use rules::Flat;
+ghost use mathlib.Core.Path.{_≡_};
+ghost use Rattle.rules.specs.Channels.{listIn};
+ghost use Rattle.rules.specs.Registers.{viewVerdict};
+ghost use Rattle.rules.specs.Steps.{stepsOf};
+ghost use Rattle.rules.specs.Answers.{told, toldRun, toldWait, toldBound, toldVerdict};
+ghost use Rattle.rules.specs.Promises.{DoesWord, Runs, Waits, Bounds, Tells};
+ghost use Rattle.rules.specs.Waiting.{Demand3OfRun, Demand3OfWait};
+ghost use Rattle.rules.specs.Bounds.{BoundSays};
+
+// One step, given as a word.
+#[no_mangle]
+pub extern "C" fn st9_step(image: &mut [u8], channels: &[u8], word: u64) -> Flat
+    ensures { λ f. ⌜ Tells told (λ a. DoesWord (now (image .entry)) (listIn (now (channels .entry))) word a (now (image .exit))) f ⌝ }
+{
+    let all = unpacked(channels);
+    of_step(machine::perform(image, all, word))
+}
+
+// A run of steps given as words; and what demand 3 says of it.
+#[no_mangle]
+pub extern "C" fn st9_run(image: &mut [u8], channels: &[u8], words: &[u64]) -> Flat
+    ensures { λ f. ⌜ Tells toldRun (λ r. Runs (now (image .entry)) (listIn (now (channels .entry))) (now (words .entry)) r (now (image .exit)) × Demand3OfRun (now (image .entry)) (listIn (now (channels .entry))) (stepsOf (now (words .entry))) (now (image .exit))) f ⌝ }
+{
+    let all = unpacked(channels);
+    of_run(machine::run(image, all, words))
+}
+
+// The wait report for a source over steps given as words; and what demand 3 says of it.
+#[no_mangle]
+pub extern "C" fn st9_wait(image: &mut [u8], channels: &[u8], source: u32, words: &[u64]) -> Flat
+    ensures { λ f. ⌜ Tells toldWait (λ w. Waits (now (image .entry)) (listIn (now (channels .entry))) source (now (words .entry)) w (now (image .exit)) × Demand3OfWait (now (image .entry)) (listIn (now (channels .entry))) source (stepsOf (now (words .entry))) w (now (image .exit))) f ⌝ }
+{
+    let all = unpacked(channels);
+    of_wait(machine::wait(image, all, source, words))
+}
+
+// Demand 3's bound for a source over steps given as words; and what it says.
+#[no_mangle]
+pub extern "C" fn st9_bound(image: &[u8], channels: &[u8], source: u32, words: &[u64]) -> Flat
+    ensures { λ f. ⌜ Tells toldBound (λ b. Bounds (now (image .entry)) (listIn (now (channels .entry))) source (now (words .entry)) b × BoundSays (now (image .entry)) (listIn (now (channels .entry))) source (stepsOf (now (words .entry))) b) f ⌝ }
+{
+    let all = unpacked(channels);
+    of_bound(machine::bound(image, all, source, words))
+}
+
+// The number that the view of a page is refused with, 0 where it is accepted.
+#[no_mangle]
+pub extern "C" fn st9_view_number(image: &[u8], page: u32) -> u64
+    ensures { λ n. ⌜ n ≡ toldVerdict (viewVerdict (now (image .entry)) page) ⌝ }
+{
+    verdict_number(registers::view_verdict(image, page))
+}
