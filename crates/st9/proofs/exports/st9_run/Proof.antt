@@ -1,0 +1,31 @@
+-- What `machine::run` promises of the copy, said of the bytes and told in numbers.
+use borrow.Author.Needs.{needs}
+use Rattle.st9.proofs.PackedPromises.{packed-runs}
+use Rattle.st9.proofs.exports.st9_run.Statement.{statement}
+use Rattle.st9.proofs.exports.st9_run.Tie as tie
+
+unpacked-requires : tie.Need-unpacked-requires
+unpacked-requires c κs = search needs
+
+run-requires : tie.Need-run-requires
+run-requires c κs = search needs
+
+of-run-requires : tie.Need-of-run-requires
+of-run-requires c κs = search needs
+
+same-length : tie.Need-same-length
+same-length c = search needs
+
+returns : tie.Need-returns
+returns c =
+    let p = c .before .before .before in
+    let u = p .before .before .unpacked in
+    let a = p .before .before .before .before .before .before .args in (
+      p .run .result,
+      c .of-run .ensures,
+      packed-runs (a .image .now) (a .channels .now) (u .result) (u .ensures) (a .words .now) (p .run .result) (p .run .last .0) (p .run .ensures),
+    )
+
+pub st9-run-spec : {M : Type 1} → statement M
+st9-run-spec =
+    tie.close (tie.spec unpacked-requires run-requires of-run-requires same-length returns)

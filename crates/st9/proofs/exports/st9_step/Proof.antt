@@ -1,0 +1,31 @@
+-- What `machine::perform` promises of the copy, said of the bytes and told in numbers.
+use borrow.Author.Needs.{needs}
+use Rattle.st9.proofs.PackedPromises.{packed-does}
+use Rattle.st9.proofs.exports.st9_step.Statement.{statement}
+use Rattle.st9.proofs.exports.st9_step.Tie as tie
+
+unpacked-requires : tie.Need-unpacked-requires
+unpacked-requires c κs = search needs
+
+perform-requires : tie.Need-perform-requires
+perform-requires c κs = search needs
+
+of-step-requires : tie.Need-of-step-requires
+of-step-requires c κs = search needs
+
+same-length : tie.Need-same-length
+same-length c = search needs
+
+returns : tie.Need-returns
+returns c =
+    let p = c .before .before .before in
+    let u = p .before .before .unpacked in
+    let a = p .before .before .before .before .before .args in (
+      p .perform .result,
+      c .of-step .ensures,
+      packed-does (a .image .now) (a .channels .now) (u .result) (u .ensures) (a .word) (p .perform .result) (p .perform .last .0) (p .perform .ensures),
+    )
+
+pub st9-step-spec : {M : Type 1} → statement M
+st9-step-spec =
+    tie.close (tie.spec unpacked-requires perform-requires of-step-requires same-length returns)
