@@ -1,4 +1,5 @@
 // Answers and changed bytes in words, for the programs that run cases.
+use answers::refusal_number;
 use rules::Answer;
 use rules::Bounded;
 use rules::Effect;
@@ -11,7 +12,6 @@ ghost use mathlib.Core.Path.{_≡_};
 ghost use mathlib.Core.Bool.{not};
 ghost use lib.Dec.{eqb};
 ghost use Rattle.rules.specs.Image.{imageLength};
-ghost use Rattle.rules.specs.Answers.{refusalNumber};
 ghost use Rattle.rules.specs.Runs.{oneIf};
 ghost use Rattle.rules.specs.Waiting.{countBelow};
 ghost use Rattle.report.specs.Changes.{differs};
@@ -38,21 +38,6 @@ fn nibble(x: u8) -> u8 {
 pub fn byte(b: u8) {
     let digits = [nibble(b / 16), nibble(b), 104];
     io::write_all(1, &digits);
-}
-
-// Document 01's number of a refusal.
-pub fn refusal_number(r: Refusal) -> u64
-    ensures { λ n. ⌜ n ≡ refusalNumber r ⌝ }
-{
-    match r {
-        Refusal::Length => 1,
-        Refusal::List => 2,
-        Refusal::Register => 3,
-        Refusal::Number => 4,
-        Refusal::Memory => 5,
-        Refusal::Pointer => 6,
-        Refusal::Kind => 7,
-    }
 }
 
 // A refusal by its number.
