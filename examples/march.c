@@ -1,0 +1,37 @@
+/*
+ * The March incident in a C harness: one write to EIPR erases two alarms, and its answer says which.
+ *
+ *     rt staticlib st9
+ *     cc -std=c11 -Iinclude examples/march.c target/staticlib/libst9.a -o march && ./march
+ */
+#include "st9.h"
+
+#include <inttypes.h>
+#include <stdio.h>
+
+int main(void)
+{
+    uint8_t image[ST9_IMAGE_LENGTH] = {0};
+    image[ST9_CICR] = 0x97;  /* interrupts enabled, concurrent mode, CPL 7 */
+    image[ST9_PAGED(0, ST9_EIMR)] = 1 << ST9_INTB0 | 1 << ST9_INTC0;
+    image[ST9_PAGED(0, ST9_EIPLR)] = 0xE7;  /* INTB0 at level 2, INTC0 at level 4 */
+    image[ST9_PAGED(0, ST9_EIVR)] = 0x46;
+
+    const uint64_t words[] = {
+        st9_pin_edge(ST9_INTB0, ST9_FALLING),  /* over-temperature */
+        st9_arbitrate(),                       /* its handler starts */
+        st9_pin_edge(ST9_INTB0, ST9_FALLING),  /* the contact bounces */
+        st9_pin_edge(ST9_INTC0, ST9_FALLING),  /* the fan fails meanwhile */
+        st9_write(ST9_EIPR, 0x00)              /* the handler clears the pending register */
+    };
+    st9_answer answer = st9_run(image, sizeof image, NULL, 0, words, sizeof words / sizeof words[0]);
+    if (answer.refusal != 0) {
+        printf("refused with %" PRIu64 "\n", answer.refusal);
+        return 1;
+    }
+    printf("%" PRIu64 " steps done\n", answer.steps);
+    for (unsigned source = ST9_INTA0; source < ST9_FIRST_CHANNEL; source++)
+        if (answer.kind == ST9_WRITTEN && (answer.lost >> source & 1) != 0)
+            printf("the write erased the alarm of source %u\n", source);
+    return 0;
+}

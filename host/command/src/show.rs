@@ -1,0 +1,51 @@
+//! `st9 show`.
+
+use crate::arguments::Show;
+use crate::input;
+use crate::output::{Failure, Outcome, Output};
+use scenario::{named_registers, refused, Object, Place, Stored};
+
+pub fn show(options: &Show, output: &mut Output) -> Result<Outcome, Failure> {
+    let image = input::image(&options.image)?;
+    // The page that is asked for, or the one that every image has: a bad length is refused by either.
+    let page = match st9::view(&image, options.page.unwrap_or(0)) {
+        Ok(page) => page,
+        Err(refusal) => {
+            output.line(&match options.json {
+                true => Object::new()
+                    .text("type", "result")
+                    .text("result", "refused")
+                    .refusal(refusal)
+                    .end(),
+                false => refused(refusal),
+            });
+            return Ok(Outcome::Refused);
+        }
+    };
+    let places = named_registers().iter().map(|(_, number)| Place::of(0, *number));
+    for place in places.chain([Place::MARK]) {
+        let byte = image.get(place.0).copied().unwrap_or_default();
+        print(Stored { place, byte }, options.json, output);
+    }
+    if let Some(number) = options.page {
+        if !options.json {
+            output.line("");
+        }
+        for (register, byte) in (240..=255).zip(page) {
+            let place = Place::of(number as u8, register);
+            print(Stored { place, byte: *byte }, options.json, output);
+        }
+    }
+    if options.json {
+        let result = Object::new().text("type", "result").text("result", "done");
+        output.line(&result.end());
+    }
+    Ok(Outcome::Done)
+}
+
+fn print(stored: Stored, json: bool, output: &mut Output) {
+    output.line(&match json {
+        true => stored.json(),
+        false => stored.words(),
+    });
+}

@@ -1,0 +1,76 @@
+//! `--json`: one object a line, each well formed.
+
+mod support;
+
+use support::{examples, is_json, st9, st9_in};
+
+fn assert_lines(out: &str) {
+    assert!(!out.is_empty());
+    for line in out.lines() {
+        assert!(line.starts_with("{\"type\":\"") && is_json(line), "{line}");
+    }
+}
+
+#[test]
+fn the_checker_itself() {
+    for good in ["{}", "[]", "{\"a\":[1,null,true],\"b\":\"\\u000A\"}", "-10", "0", "\"\\\"\""] {
+        assert!(is_json(good), "{good}");
+    }
+    for bad in ["", "{", "{\"a\"}", "[1,]", "01", "\"\n\"", "\"\\x\"", "{}{}", "nul", "{a:1}"] {
+        assert!(!is_json(bad), "{bad}");
+    }
+}
+
+#[test]
+fn examples_are_well_formed() {
+    for file in examples() {
+        let text = std::fs::read_to_string(file).expect("a scenario");
+        assert_lines(&st9(&["run", "-", "--json"], &text).with_code(0).out);
+        assert_lines(&st9(&["wait", "-", "--json", "--source", "INTC0"], &text).with_code(0).out);
+    }
+}
+
+#[test]
+fn objects_of_a_run() {
+    let scenario = "image zero\nset EIPR 06h\nwrite EIPR 02h\nread R16\nrequest 3\n";
+    let expected = r#"{"type":"step","step":0,"line":3,"statement":"write EIPR 02h","answer":"written","erased":4,"sources":["INTB0"],"register":243,"page":0,"words":"erased 04h: INTB0"}
+{"type":"step","step":1,"line":4,"statement":"read R16","answer":"byte","byte":0,"register":16,"page":null,"words":"00h"}
+{"type":"step","step":2,"line":5,"statement":"request 3","answer":"refused","refusal":4,"meaning":"pin over 7, direction over 1, record or source number that isn't there","words":"refused with 4: pin over 7, direction over 1, record or source number that isn't there"}
+{"type":"change","name":"EIPR","register":243,"page":0,"before":6,"after":2,"fields":[{"name":"INTB0","before":1,"after":0}]}
+{"type":"result","result":"refused","refusal":4,"meaning":"pin over 7, direction over 1, record or source number that isn't there","step":2,"line":5}
+"#;
+    assert_eq!(st9(&["run", "--json", "-"], scenario).with_code(1).out, expected);
+    let quiet = st9(&["run", "--json", "--quiet", "-"], scenario).with_code(1).out;
+    assert!(expected.ends_with(&quiet) && quiet.lines().count() == 2, "{quiet}");
+}
+
+#[test]
+fn objects_of_waits() {
+    let report = |scenario: &str, code| {
+        st9(&["wait", "-", "--source", "3", "--json"], scenario).with_code(code).out
+    };
+    let expected = r#"{"type":"wait","source":3,"name":"INTB1","result":"ended","arbitrations":1}
+{"type":"bound","result":"fails","premise":"the source is not pending","step":null,"line":null}
+"#;
+    assert_eq!(report("image zero\narbitrate\n", 0), expected);
+    let refused = report("image zero\narbitrate\nread R256\n", 1);
+    assert!(refused.contains(r#","step":1,"line":3,"arbitrations":1}"#), "{refused}");
+    let other = "image zero\nset CICR 97h\nset EIPR 8\nset EIMR 8\nreset\n";
+    assert!(report(other, 0).ends_with(",\"step\":0,\"line\":5}\n"));
+}
+
+#[test]
+fn objects_of_show() {
+    let mut image = vec![0; st9::IMAGE_LENGTH];
+    image[243] = 0x14;
+    let out =
+        st9_in(&support::root(), &["show", "-", "--json", "--page", "0"], &image).with_code(0).out;
+    assert_lines(&out);
+    assert_eq!(out.lines().count(), 10 + 16 + 1);
+    assert!(out.ends_with("{\"type\":\"result\",\"result\":\"done\"}\n"));
+    let refused = st9_in(&support::root(), &["show", "-", "--json"], &image[1..]).with_code(1).out;
+    assert_eq!(
+        refused,
+        "{\"type\":\"result\",\"result\":\"refused\",\"refusal\":1,\"meaning\":\"image length is not 1,265\"}\n"
+    );
+}

@@ -1,0 +1,16 @@
+//! The exports of the proved library against the plain model, call by call.
+//!
+//! A [`Pair`] holds an image twice, one copy lent to the exports and one to the model, and makes each call on both. It compares the flat answers of
+//! `include/st9.h` field by field and the images whole, and sees that the channel bytes, the words and the memory around every lent part stay as
+//! they were. [`generate`] makes the images, lists and steps from fixed seeds; [`Tally`] counts what was answered.
+
+pub mod flat;
+pub mod generate;
+mod lent;
+mod pair;
+mod random;
+mod tally;
+
+pub use pair::Pair;
+pub use random::Random;
+pub use tally::{Call, Tally};

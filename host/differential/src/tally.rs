@@ -1,0 +1,159 @@
+//! What was answered, counted, and what each call can answer.
+
+use st9::sys;
+use std::fmt::Write;
+use std::ops::RangeInclusive;
+
+/// The calls. A view's number is counted as a refusal of kind 0.
+#[derive(Clone, Copy, Debug, PartialEq, Eq)]
+pub enum Call {
+    Step,
+    Run,
+    Wait,
+    Bound,
+    View,
+}
+
+/// The kinds that have a refusal's number, and those numbers; every other kind has 0.
+type Refusals = &'static [(u64, &'static [u64])];
+
+impl Call {
+    /// The kinds that the call can answer without a refusal.
+    fn accepted(self) -> RangeInclusive<u64> {
+        match self {
+            Call::Step => sys::BYTE..=sys::RESET,
+            Call::Run => sys::NO_STEP..=sys::RESET,
+            Call::Wait => sys::ENDED..=sys::ACKNOWLEDGED,
+            Call::Bound => sys::NESTED..=sys::WITHIN,
+            Call::View => 0..=0,
+        }
+    }
+
+    /// The kinds and numbers that the call can be refused with. A step in a run is never refused with 1 or 2.
+    fn refusals(self) -> Refusals {
+        match self {
+            Call::Step => &[(sys::REFUSED, &[1, 2, 3, 4, 5, 6, 7])],
+            Call::Run => &[
+                (sys::REFUSED_CALL, &[1, 2]),
+                (sys::REFUSED_STEP, &[3, 4, 5, 6, 7]),
+            ],
+            Call::Wait => &[
+                (sys::REFUSED_CALL, &[1, 2, 4]),
+                (sys::REFUSED_STEP, &[3, 4, 5, 6, 7]),
+            ],
+            Call::Bound => &[(sys::REFUSED_CALL, &[1, 2, 4])],
+            Call::View => &[(0, &[1, 3])],
+        }
+    }
+
+    /// Whether the call can answer a kind with a refusal's number.
+    fn can_give(self, kind: u64, refusal: u64) -> bool {
+        match refusal {
+            0 => self.accepted().contains(&kind),
+            _ => self
+                .refusals()
+                .iter()
+                .any(|(of, numbers)| *of == kind && numbers.contains(&refusal)),
+        }
+    }
+}
+
+/// The answers of one call, counted.
+pub struct Tally {
+    call: Call,
+    /// By kind and refusal.
+    answers: [[u64; 8]; 25],
+    /// The steps that were tried: those done and those refused by their own number.
+    pub steps: u64,
+    /// Interrupts by source and by level, triggers by their two effects.
+    sources: [u64; 20],
+    levels: [u64; 7],
+    effects: [u64; 9],
+}
+
+impl Tally {
+    pub fn new(call: Call) -> Tally {
+        Tally {
+            call,
+            answers: [[0; 8]; 25],
+            steps: 0,
+            sources: [0; 20],
+            levels: [0; 7],
+            effects: [0; 9],
+        }
+    }
+
+    /// Counts an answer.
+    pub fn count(&mut self, answer: sys::Answer) {
+        self.answers[answer.kind as usize][answer.refusal as usize] += 1;
+        match answer.kind {
+            sys::INTERRUPT => {
+                self.sources[answer.first as usize] += 1;
+                self.levels[answer.second as usize] += 1;
+            }
+            sys::TRIGGERED => self.effects[(3 * answer.first + answer.second) as usize] += 1,
+            _ => {}
+        }
+        self.steps += match (self.call, answer.kind) {
+            (Call::Step, _) => u64::from(!matches!(answer.refusal, 1 | 2)),
+            (Call::Run, sys::REFUSED_STEP) => answer.steps + 1,
+            (Call::Run, _) => answer.steps,
+            _ => 0,
+        };
+    }
+
+    /// Counts a view's number.
+    pub fn count_view(&mut self, number: u64) {
+        self.answers[0][number as usize] += 1;
+    }
+
+    /// How often a kind was answered.
+    pub fn of_kind(&self, kind: u64) -> u64 {
+        self.answers[kind as usize].iter().sum()
+    }
+
+    /// Panics unless exactly the answers that the call can give were met.
+    pub fn assert_all_met(&self) {
+        for kind in 0..25 {
+            for refusal in 0..8 {
+                let met = self.answers[kind as usize][refusal as usize] > 0;
+                let possible = self.call.can_give(kind, refusal);
+                assert_eq!(
+                    met, possible,
+                    "{:?}: kind {kind}, refusal {refusal}",
+                    self.call
+                );
+            }
+        }
+    }
+
+    /// Panics unless every source, every level below 7 and every pair of effects was met.
+    pub fn assert_all_served(&self) {
+        let counts = [&self.sources[..], &self.levels, &self.effects];
+        assert!(counts.concat().iter().all(|count| *count > 0), "{}", self);
+    }
+}
+
+impl std::fmt::Display for Tally {
+    fn fmt(&self, out: &mut std::fmt::Formatter<'_>) -> std::fmt::Result {
+        writeln!(out, "{:?}: {} steps", self.call, self.steps)?;
+        for (kind, refusals) in self.answers.iter().enumerate() {
+            let mut line = String::new();
+            for (refusal, count) in refusals.iter().enumerate().filter(|(_, n)| **n > 0) {
+                match refusal {
+                    0 => write!(line, " {count}")?,
+                    _ => write!(line, " refusal {refusal}: {count}")?,
+                }
+            }
+            if !line.is_empty() {
+                writeln!(out, "  kind {kind:2}:{line}")?;
+            }
+        }
+        if matches!(self.call, Call::Step | Call::Run) {
+            writeln!(out, "  interrupts by source {:?}", self.sources)?;
+            writeln!(out, "  interrupts by level {:?}", self.levels)?;
+            writeln!(out, "  triggers by effects {:?}", self.effects)?;
+        }
+        Ok(())
+    }
+}

@@ -1,0 +1,327 @@
+//! Every export against the plain model on fixed seeds. With `--nocapture` the counts are printed.
+//!
+//! What each call can answer is said in `differential::Call`; every such answer is asserted to be met, and no other.
+
+use differential::generate::{self, Flavour};
+use differential::{Call, Pair, Random, Tally};
+use model::Channel;
+use st9::sys;
+
+/// The steps that are tried at least, in single steps and in runs: three million in all.
+const SINGLE_STEPS: u64 = 1_800_000;
+const RUN_STEPS: u64 = 1_200_000;
+const _: () = assert!(SINGLE_STEPS + RUN_STEPS >= 2_000_000);
+
+/// An image and the bytes of a list, and the records that steps are made for.
+struct Start {
+    image: Vec<u8>,
+    list: Vec<u8>,
+    channels: Vec<Channel>,
+}
+
+impl Start {
+    /// Mostly a good image and a good list; one time in sixteen the image is damaged, the list or both.
+    fn any(random: &mut Random) -> Start {
+        let count = random.below(13) as usize;
+        let channels = generate::list(random, count);
+        let mut image = generate::image(random, &channels);
+        let mut list = generate::bytes(&channels);
+        let damage = random.below(48);
+        if matches!(damage, 0 | 2) {
+            image = generate::damaged_image(random);
+        }
+        if matches!(damage, 1 | 2) {
+            list = generate::damaged_bytes(random);
+        }
+        Start {
+            image,
+            list,
+            channels,
+        }
+    }
+
+    /// A good list, and an image in which a source waits as demand 3 says; one time in six one premise is broken.
+    fn waiting(random: &mut Random) -> (Start, u32) {
+        let count = random.below(13) as usize;
+        let channels = generate::list(random, count);
+        let source = random.below(8 + count as u64) as u32;
+        let mut image = generate::waiting_image(random, &channels, source);
+        if random.chance(1, 6) {
+            generate::break_premise(random, &mut image, &channels, source);
+        }
+        let list = generate::bytes(&channels);
+        let start = Start {
+            image,
+            list,
+            channels,
+        };
+        (start, source)
+    }
+
+    /// Steps of all kinds for the start.
+    fn steps(&self, random: &mut Random, flavour: Flavour, count: usize) -> Vec<u64> {
+        generate::steps(random, &self.image, &self.channels, flavour, count)
+    }
+
+    fn pair(&self, name: String) -> Pair {
+        Pair::new(name, &self.image, &self.list)
+    }
+}
+
+#[test]
+fn steps() {
+    let mut random = Random::new(1);
+    let mut tally = Tally::new(Call::Step);
+    let mut trace = 0;
+    while tally.steps < SINGLE_STEPS {
+        let start = Start::any(&mut random);
+        let mut pair = start.pair(format!("trace {trace} of single steps"));
+        let flavour = random.pick(&[Flavour::Rare, Flavour::Bad]);
+        let count = 1 + random.below(60) as usize;
+        for word in start.steps(&mut random, flavour, count) {
+            tally.count(pair.step(word));
+        }
+        trace += 1;
+    }
+    print!("{tally}");
+    assert!(tally.steps >= SINGLE_STEPS);
+    tally.assert_all_met();
+    tally.assert_all_served();
+}
+
+#[test]
+fn runs() {
+    let mut random = Random::new(2);
+    let mut tally = Tally::new(Call::Run);
+    let mut number = 0;
+    while tally.steps < RUN_STEPS {
+        let start = Start::any(&mut random);
+        let mut pair = start.pair(format!("run {number}"));
+        let flavour = random.pick(&[Flavour::Good, Flavour::Rare, Flavour::Bad]);
+        let count = random.below(80) as usize;
+        let words = start.steps(&mut random, flavour, count);
+        tally.count(pair.run(&words));
+        number += 1;
+    }
+    print!("{tally}");
+    assert!(tally.steps >= RUN_STEPS);
+    tally.assert_all_met();
+}
+
+#[test]
+fn waits() {
+    let mut random = Random::new(3);
+    let mut tally = Tally::new(Call::Wait);
+    for number in 0..30_000 {
+        let start = Start::any(&mut random);
+        let mut pair = start.pair(format!("wait {number}"));
+        let flavour = random.pick(&[Flavour::Good, Flavour::Rare, Flavour::Bad]);
+        let count = random.below(60) as usize;
+        let words = start.steps(&mut random, flavour, count);
+        let source = generate::source(&mut random, start.channels.len());
+        tally.count(pair.wait(source, &words));
+    }
+    print!("{tally}");
+    tally.assert_all_met();
+}
+
+#[test]
+fn bounds() {
+    let mut random = Random::new(4);
+    let mut tally = Tally::new(Call::Bound);
+    for number in 0..12_000 {
+        let start = Start::any(&mut random);
+        let mut pair = start.pair(format!("bound {number}"));
+        let flavour = random.pick(&[Flavour::Good, Flavour::Rare, Flavour::Bad]);
+        let count = random.below(30) as usize;
+        let words = start.steps(&mut random, flavour, count);
+        let source = generate::source(&mut random, start.channels.len());
+        tally.count(pair.bound(source, &words));
+    }
+    let mut waited = Waited::default();
+    for number in 0..30_000 {
+        let (start, source) = Start::waiting(&mut random);
+        let count = random.below(50) as usize;
+        let words = generate::list_of_calls(&mut random, &start.channels, count);
+        let name = format!("waiting {number}");
+        let answer = start.pair(name.clone()).bound(source, &words);
+        tally.count(answer);
+        if answer.kind == sys::WITHIN {
+            waited.check_report(start.pair(name.clone()), source, &words, answer);
+            waited.check_calls(start.pair(name), source, &words, answer);
+        }
+    }
+    println!("{tally}{waited:#?}");
+    tally.assert_all_met();
+    assert!(tally.of_kind(sys::WITHIN) >= 15_000);
+    assert!(waited.at_the_bound > 0 && waited.ended > 0 && waited.refused > 0);
+}
+
+/// What became of the sources that a bound was given for.
+#[derive(Debug, Default)]
+struct Waited {
+    acknowledged: u64,
+    /// Those by the very arbitration of the bound, and of these those with H + E > 0.
+    at_the_bound: u64,
+    at_a_bound_over_one: u64,
+    ended: u64,
+    refused: u64,
+    /// Lists followed call by call, refused ones passed over, and those acknowledged.
+    followed: u64,
+    followed_to_acknowledgement: u64,
+}
+
+impl Waited {
+    /// The wait report is acknowledged within the bound, or made at most H + E arbitrations with the source still pending.
+    fn check_report(&mut self, mut pair: Pair, source: u32, words: &[u64], bound: sys::Answer) {
+        let list = pair.channels().to_vec();
+        let answer = pair.wait(source, words);
+        let arbitrations = answer.first;
+        match answer.kind {
+            sys::ACKNOWLEDGED => {
+                assert!(arbitrations <= bound.third);
+                self.acknowledged += 1;
+                self.at_the_bound += u64::from(arbitrations == bound.third);
+                self.at_a_bound_over_one +=
+                    u64::from(arbitrations == bound.third && bound.third > 1);
+            }
+            kind => {
+                assert!(arbitrations <= bound.first + bound.second);
+                assert!(is_pending(pair.image(), &list, source));
+                self.ended += u64::from(kind == sys::ENDED);
+                self.refused += u64::from(kind == sys::REFUSED_STEP);
+            }
+        }
+    }
+
+    /// Demand 3 itself, call by call: the source is pending after every call before its acknowledgement, which is by arbitration H + E + 1 if the list has
+    /// that many.
+    fn check_calls(&mut self, mut pair: Pair, source: u32, words: &[u64], bound: sys::Answer) {
+        let list = pair.channels().to_vec();
+        let mut arbitrations = 0;
+        self.followed += 1;
+        for word in words {
+            let answer = pair.step(*word);
+            if matches!(answer.kind, sys::NOTHING | sys::INTERRUPT) {
+                arbitrations += 1;
+            }
+            if answer.kind == sys::INTERRUPT && answer.first == u64::from(source) {
+                assert!(arbitrations <= bound.third);
+                self.followed_to_acknowledgement += 1;
+                return;
+            }
+            assert!(is_pending(pair.image(), &list, source));
+            assert!(arbitrations < bound.third);
+        }
+    }
+}
+
+/// Whether a source's EIPR or IP bit is 1.
+fn is_pending(image: &[u8], channels: &[Channel], source: u32) -> bool {
+    match channels.get((source as usize).wrapping_sub(8)) {
+        Some(channel) => image[model::paged(channel.page, channel.idcr)] & 0x20 != 0,
+        None => image[243] >> source & 1 == 1,
+    }
+}
+
+#[test]
+fn views() {
+    let mut random = Random::new(5);
+    let mut tally = Tally::new(Call::View);
+    for number in 0..20_000 {
+        let mut image = generate::image(&mut random, &[]);
+        if random.chance(1, 8) {
+            image = generate::damaged_image(&mut random);
+        }
+        let mut pair = Pair::new(format!("view {number}"), &image, &[]);
+        tally.count_view(pair.view_number(generate::page(&mut random)));
+    }
+    print!("{tally}");
+    tally.assert_all_met();
+}
+
+/// Every word with small numbers, known kinds and the next unknown ones, on four images: what a random choice could pass by.
+#[test]
+fn every_small_word() {
+    let mut random = Random::new(6);
+    let channels = generate::list(&mut random, 12);
+    let list = generate::bytes(&channels);
+    for round in 0..4 {
+        let image = generate::image(&mut random, &channels);
+        for kind in 0..8 {
+            for trigger in 0..6 {
+                for first in (0..20).chain(224..258) {
+                    for second in 0..3 {
+                        let word = model::word::word(kind, trigger, first, second);
+                        Pair::new(format!("word, round {round}"), &image, &list).step(word);
+                    }
+                }
+            }
+        }
+    }
+}
+
+/// One record on page 9, R240 to R244.
+const RECORD: [u8; 7] = [9, 240, 241, 242, 243, 244, 0];
+
+/// A zero image with the record's data register 5Ah.
+fn record_image() -> [u8; model::IMAGE_LENGTH] {
+    let mut image = [0; model::IMAGE_LENGTH];
+    image[model::paged(9, 244)] = 0x5A;
+    image
+}
+
+/// Every CICR with every IDCR of one record that has a good block, arbitrated.
+#[test]
+fn every_cicr_and_idcr() {
+    let mut image = record_image();
+    image[model::paged(9, 242)] = 0x11;
+    for (cicr, idcr) in all_pairs() {
+        image[230] = cicr;
+        image[model::paged(9, 240)] = idcr;
+        for counter in [1, 2] {
+            (image[16], image[17]) = (20, counter);
+            let name = format!("CICR {cicr:02X}, IDCR {idcr:02X}, counter {counter}");
+            Pair::new(name, &image, &RECORD).step(model::word::arbitrate());
+        }
+    }
+}
+
+/// Every CICR with every NICR: an interrupt of source 0 acknowledged, then a return.
+#[test]
+fn every_cicr_and_nicr() {
+    let mut image = record_image();
+    (image[243], image[244]) = (0xFF, 0x01);
+    for (cicr, nicr) in all_pairs() {
+        (image[230], image[247]) = (cicr, nicr);
+        let name = format!("CICR {cicr:02X}, NICR {nicr:02X}");
+        let mut pair = Pair::new(name, &image, &[]);
+        pair.step(model::word::arbitrate());
+        pair.step(model::word::return_from());
+        pair.step(model::word::return_from());
+    }
+}
+
+/// Every DCPR with every address, in both directions.
+#[test]
+fn every_dcpr_and_address() {
+    for (dcpr, address) in all_pairs() {
+        let mut image = record_image();
+        image[230] = 0x87;
+        image[model::paged(9, 240)] = 0x3A;
+        image[model::paged(9, 242)] = dcpr;
+        image[usize::from(dcpr & 0xFE)] = address;
+        image[usize::from(dcpr | 1)] = 2;
+        for direction in [0, 1] {
+            let mut record = RECORD;
+            record[6] = direction;
+            let name = format!("DCPR {dcpr:02X}, address {address:02X}, direction {direction}");
+            Pair::new(name, &image, &record).step(model::word::arbitrate());
+        }
+    }
+}
+
+/// All pairs of bytes.
+fn all_pairs() -> impl Iterator<Item = (u8, u8)> {
+    (0..=u16::MAX).map(|both| ((both >> 8) as u8, both as u8))
+}

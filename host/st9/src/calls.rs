@@ -1,0 +1,75 @@
+//! All calls of the library: slices in, flat answers out.
+
+#![allow(unsafe_code)]
+
+use crate::sys;
+use crate::Channel;
+
+pub(crate) fn step(image: &mut [u8], channels: &[Channel], word: u64) -> sys::Answer {
+    let (records, length) = bytes(channels);
+    // SAFETY: both pointers and lengths are of live slices; the image is borrowed mutably, so that nothing overlaps it
+    // and nobody else reads or writes it during the call. The library keeps no pointer.
+    unsafe { sys::st9_step(image.as_mut_ptr(), image.len(), records, length, word) }
+}
+
+pub(crate) fn run(image: &mut [u8], channels: &[Channel], words: &[u64]) -> sys::Answer {
+    let (records, length) = bytes(channels);
+    // SAFETY: as in `step`; the words are a live slice too, and aligned.
+    unsafe {
+        sys::st9_run(image.as_mut_ptr(), image.len(), records, length, words.as_ptr(), words.len())
+    }
+}
+
+pub(crate) fn wait(
+    image: &mut [u8],
+    channels: &[Channel],
+    source: u32,
+    words: &[u64],
+) -> sys::Answer {
+    let (records, length) = bytes(channels);
+    // SAFETY: as in `run`.
+    unsafe {
+        sys::st9_wait(
+            image.as_mut_ptr(),
+            image.len(),
+            records,
+            length,
+            source,
+            words.as_ptr(),
+            words.len(),
+        )
+    }
+}
+
+pub(crate) fn bound(image: &[u8], channels: &[Channel], source: u32, words: &[u64]) -> sys::Answer {
+    let (records, length) = bytes(channels);
+    // SAFETY: as in `run`; the image is only read.
+    unsafe {
+        sys::st9_bound(
+            image.as_ptr(),
+            image.len(),
+            records,
+            length,
+            source,
+            words.as_ptr(),
+            words.len(),
+        )
+    }
+}
+
+pub(crate) fn view_number(image: &[u8], page: u32) -> u64 {
+    // SAFETY: pointer and length are of one live slice, which is only read.
+    unsafe { sys::st9_view_number(image.as_ptr(), image.len(), page) }
+}
+
+/// A channel list as the library takes it: its bytes, seven a record, and their number.
+fn bytes(channels: &[Channel]) -> (*const u8, usize) {
+    (channels.as_ptr().cast(), std::mem::size_of_val(channels))
+}
+
+/// The one panic of this crate: an answer that `include/st9.h` does not have. No input leads here; it means that the
+/// archive is not that of this crate, and then no answer of it may be passed on.
+#[cold]
+pub(crate) fn foreign(what: &str, number: u64) -> ! {
+    panic!("libst9.a answers {number} as {what}, which include/st9.h does not have: it is not the archive of this crate")
+}

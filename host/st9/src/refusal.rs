@@ -1,0 +1,72 @@
+//! The refusals of document 01.
+
+use crate::calls;
+use std::fmt;
+
+/// Why a call or a step was refused. Nothing was changed by what was refused.
+#[repr(u8)]
+#[derive(Clone, Copy, Debug, PartialEq, Eq, Hash, PartialOrd, Ord)]
+pub enum Refusal {
+    /// 1: the image's length is not 1,265.
+    ImageLength = 1,
+    /// 2: the channel list breaks a rule.
+    ChannelList = 2,
+    /// 3: a register that is not modelled or over 255, a viewed page over 63.
+    Register = 3,
+    /// 4: a pin over 7, a direction over 1, a record or a source that isn't there.
+    Number = 4,
+    /// 5: the DMA winner has DCPR bit 0 = 0 (memory).
+    MemoryTransfer = 5,
+    /// 6: the DMA winner has a pointer pair or an address over 223.
+    Pointer = 6,
+    /// 7: a kind of step or of trigger that is unknown.
+    UnknownKind = 7,
+}
+
+impl Refusal {
+    /// All refusals, in the order of their numbers.
+    pub const ALL: [Refusal; 7] = [
+        Refusal::ImageLength,
+        Refusal::ChannelList,
+        Refusal::Register,
+        Refusal::Number,
+        Refusal::MemoryTransfer,
+        Refusal::Pointer,
+        Refusal::UnknownKind,
+    ];
+
+    /// Document 01's number, 1 to 7.
+    pub const fn number(self) -> u8 {
+        self as u8
+    }
+
+    /// The refusal of a number, if there is one.
+    pub fn from_number(number: u64) -> Option<Refusal> {
+        Refusal::ALL.into_iter().find(|refusal| u64::from(refusal.number()) == number)
+    }
+
+    pub(crate) fn answered(number: u64) -> Refusal {
+        Refusal::from_number(number).unwrap_or_else(|| calls::foreign("a refusal", number))
+    }
+}
+
+/// Document 01's words: "given exactly when".
+impl fmt::Display for Refusal {
+    fn fmt(&self, f: &mut fmt::Formatter<'_>) -> fmt::Result {
+        f.write_str(match self {
+            Refusal::ImageLength => "image length is not 1,265",
+            Refusal::ChannelList => "channel list breaks a rule",
+            Refusal::Register => {
+                "register read or written not modelled or over 255; viewed page over 63"
+            }
+            Refusal::Number => {
+                "pin over 7, direction over 1, record or source number that isn't there"
+            }
+            Refusal::MemoryTransfer => "the DMA winner has DCPR bit 0 = 0 (memory)",
+            Refusal::Pointer => "the DMA winner has n or a over 223",
+            Refusal::UnknownKind => "step or trigger kind unknown",
+        })
+    }
+}
+
+impl std::error::Error for Refusal {}

@@ -1,0 +1,155 @@
+//! Runs and the wait report.
+
+use crate::{calls, sys, Answer, Channel, Refusal, Source};
+use std::error::Error;
+use std::fmt;
+
+/// A run whose steps were all done.
+#[derive(Clone, Copy, Debug, PartialEq, Eq, Hash)]
+pub struct Done {
+    /// How many steps were done.
+    pub steps: usize,
+    /// The answer of the last one; none for an empty list.
+    pub last: Option<Answer>,
+}
+
+/// A run that was refused.
+#[derive(Clone, Copy, Debug, PartialEq, Eq, Hash)]
+pub enum RunError {
+    /// Refused before any step: the image's length or the channel list.
+    Call(Refusal),
+    /// Refused at a step; the image is as the steps before it left it.
+    Step {
+        /// Why.
+        refusal: Refusal,
+        /// The step's index, from 0.
+        index: usize,
+    },
+}
+
+/// What a wait report answers.
+#[derive(Clone, Copy, Debug, PartialEq, Eq, Hash)]
+pub enum Wait {
+    /// The source was acknowledged by an interrupt.
+    Acknowledged {
+        /// The arbitrations made, the last included.
+        arbitrations: u64,
+    },
+    /// The list ended first.
+    Ended {
+        /// The arbitrations made.
+        arbitrations: u64,
+    },
+}
+
+/// A wait report that was refused.
+#[derive(Clone, Copy, Debug, PartialEq, Eq, Hash)]
+pub enum WaitError {
+    /// Refused before any step: the image's length, the channel list or the source's number.
+    Call(Refusal),
+    /// Refused at a step; the image is as the steps before it left it.
+    Step {
+        /// Why.
+        refusal: Refusal,
+        /// The step's index, from 0.
+        index: usize,
+        /// The arbitrations made before it.
+        arbitrations: u64,
+    },
+}
+
+/// Does the steps one after another, up to the first that is refused.
+///
+/// ```
+/// use st9::{run, Answer, Done, Refusal, RunError, Step};
+///
+/// let mut image = [0; st9::IMAGE_LENGTH];
+/// let words = [Step::Return.word(), Step::Read { register: 256 }.word()];
+/// let done = Done { steps: 1, last: Some(Answer::Returned) };
+/// assert_eq!(run(&mut image, &[], &words[..1]), Ok(done));
+/// let refused = RunError::Step { refusal: Refusal::Register, index: 1 };
+/// assert_eq!(run(&mut image, &[], &words), Err(refused));
+/// ```
+pub fn run(image: &mut [u8], channels: &[Channel], words: &[u64]) -> Result<Done, RunError> {
+    let flat = calls::run(image, channels, words);
+    let refusal = || Refusal::answered(flat.refusal);
+    match flat.kind {
+        sys::REFUSED_CALL => Err(RunError::Call(refusal())),
+        sys::REFUSED_STEP => Err(RunError::Step { refusal: refusal(), index: count(flat.steps) }),
+        kind => Ok(Done {
+            steps: count(flat.steps),
+            last: (kind != sys::NO_STEP).then(|| Answer::told(&flat)),
+        }),
+    }
+}
+
+/// Does the steps until the source is acknowledged by an interrupt, or the list ends, or a step is refused, and counts
+/// the arbitrations.
+///
+/// ```
+/// use st9::{wait, Refusal, Source, Step, Wait, WaitError};
+///
+/// let mut image = [0; st9::IMAGE_LENGTH];
+/// let words = [Step::Arbitrate.word()];
+/// let ended = Wait::Ended { arbitrations: 1 };
+/// assert_eq!(wait(&mut image, &[], Source::INTB1, &words), Ok(ended));
+/// let refused = WaitError::Call(Refusal::Number);
+/// assert_eq!(wait(&mut image, &[], Source::channel(0), &words), Err(refused));
+/// ```
+pub fn wait(
+    image: &mut [u8],
+    channels: &[Channel],
+    source: Source,
+    words: &[u64],
+) -> Result<Wait, WaitError> {
+    let flat = calls::wait(image, channels, source.0, words);
+    let arbitrations = flat.first;
+    match flat.kind {
+        sys::ACKNOWLEDGED => Ok(Wait::Acknowledged { arbitrations }),
+        sys::ENDED => Ok(Wait::Ended { arbitrations }),
+        sys::REFUSED_CALL => Err(WaitError::Call(Refusal::answered(flat.refusal))),
+        sys::REFUSED_STEP => Err(WaitError::Step {
+            refusal: Refusal::answered(flat.refusal),
+            index: count(flat.steps),
+            arbitrations,
+        }),
+        kind => calls::foreign("the kind of a wait report", kind),
+    }
+}
+
+/// A number of steps or an index, which no list of words can have beyond `usize`.
+pub(crate) fn count(number: u64) -> usize {
+    usize::try_from(number).unwrap_or_else(|_| calls::foreign("a number of steps", number))
+}
+
+impl fmt::Display for RunError {
+    fn fmt(&self, f: &mut fmt::Formatter<'_>) -> fmt::Result {
+        match self {
+            RunError::Call(refusal) => refused(f, *refusal),
+            RunError::Step { refusal, index } => {
+                write!(f, "step {index} ")?;
+                refused(f, *refusal)
+            }
+        }
+    }
+}
+
+impl fmt::Display for WaitError {
+    fn fmt(&self, f: &mut fmt::Formatter<'_>) -> fmt::Result {
+        match self {
+            WaitError::Call(refusal) => refused(f, *refusal),
+            WaitError::Step { refusal, index, arbitrations } => {
+                write!(f, "step {index}, after {arbitrations} arbitrations, ")?;
+                refused(f, *refusal)
+            }
+        }
+    }
+}
+
+fn refused(f: &mut fmt::Formatter<'_>, refusal: Refusal) -> fmt::Result {
+    write!(f, "refused with {}: {refusal}", refusal.number())
+}
+
+impl Error for RunError {}
+
+impl Error for WaitError {}

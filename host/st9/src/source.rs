@@ -1,0 +1,46 @@
+//! The sources of interrupts and their names.
+
+use std::fmt;
+
+/// A source by its number: 0 to 7 are the external channels INTA0 to INTD1, 8 onward the records of the channel list.
+/// Any number may be asked about; one that isn't there is refused with 4.
+#[derive(Clone, Copy, Debug, PartialEq, Eq, Hash, PartialOrd, Ord)]
+pub struct Source(pub u32);
+
+impl Source {
+    /// External channel 0.
+    pub const INTA0: Source = Source(0);
+    /// External channel 1.
+    pub const INTA1: Source = Source(1);
+    /// External channel 2.
+    pub const INTB0: Source = Source(2);
+    /// External channel 3.
+    pub const INTB1: Source = Source(3);
+    /// External channel 4.
+    pub const INTC0: Source = Source(4);
+    /// External channel 5.
+    pub const INTC1: Source = Source(5);
+    /// External channel 6.
+    pub const INTD0: Source = Source(6);
+    /// External channel 7.
+    pub const INTD1: Source = Source(7);
+
+    /// The names of the eight external channels, in the order of their numbers.
+    pub const EXTERNAL: [&'static str; 8] =
+        ["INTA0", "INTA1", "INTB0", "INTB1", "INTC0", "INTC1", "INTD0", "INTD1"];
+
+    /// The source of record `record` of the channel list, from 0.
+    pub const fn channel(record: u32) -> Source {
+        Source(record.saturating_add(8))
+    }
+}
+
+/// `INTB0` or `channel 0`.
+impl fmt::Display for Source {
+    fn fmt(&self, f: &mut fmt::Formatter<'_>) -> fmt::Result {
+        match Source::EXTERNAL.get(self.0 as usize) {
+            Some(name) => f.pad(name),
+            None => write!(f, "channel {}", self.0 - 8),
+        }
+    }
+}

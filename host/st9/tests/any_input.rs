@@ -1,0 +1,197 @@
+//! Any image, any channel list, any word: an answer, no panic, and a refusal that changes nothing.
+
+use st9::{Bound, Channel, Done, Refusal, RunError, Source, Step, Wait, WaitError};
+
+/// Random numbers (xorshift64), the same at every run.
+struct Random(u64);
+
+impl Random {
+    fn next(&mut self) -> u64 {
+        self.0 ^= self.0 << 13;
+        self.0 ^= self.0 >> 7;
+        self.0 ^= self.0 << 17;
+        self.0
+    }
+
+    fn below(&mut self, limit: u64) -> u64 {
+        self.next() % limit
+    }
+
+    fn image(&mut self) -> Vec<u8> {
+        let length = match self.below(8) {
+            0 => self.below(2000) as usize,
+            _ => st9::IMAGE_LENGTH,
+        };
+        let mut image: Vec<u8> = (0..length).map(|_| self.next() as u8).collect();
+        if let (Some(mark), 0..=5) = (image.get_mut(st9::MARK), self.below(8)) {
+            *mark = 0;
+        }
+        image
+    }
+
+    fn channels(&mut self) -> Vec<Channel> {
+        let good = |position: u64| Channel {
+            page: 1 + position as u8,
+            idcr: 240,
+            ivr: 241,
+            dcpr: 242,
+            dapr: 243,
+            data: 244,
+            direction: (position % 2) as u8,
+        };
+        let mut channels: Vec<_> = (0..self.below(15)).map(good).collect();
+        if let (Some(last), 0) = (channels.last_mut(), self.below(8)) {
+            last.data = self.next() as u8;
+        }
+        channels
+    }
+
+    fn word(&mut self) -> u64 {
+        let first = self.below(260) << 8 | self.below(3);
+        match self.below(8) {
+            0 => self.next(),
+            1 => self.below(7) << 48 | self.below(5) << 32 | first,
+            2 => Step::Return.word(),
+            3 => Step::Request { record: self.below(12) as u32 }.word(),
+            4 => Step::Pin { pin: self.below(8) as u32, edge: st9::Edge::Falling }.word(),
+            _ => Step::Arbitrate.word(),
+        }
+    }
+
+    fn words(&mut self) -> Vec<u64> {
+        (0..self.below(12)).map(|_| self.word()).collect()
+    }
+
+    /// Edges and arbitrations, a return after each arbitration: steps that demand 3 speaks of.
+    fn waiting(&mut self) -> Vec<u64> {
+        let mut words = Vec::new();
+        for _ in 0..self.below(12) {
+            let pin = self.below(8) as u32;
+            words.push(Step::Pin { pin, edge: st9::Edge::Falling }.word());
+            words.extend([Step::Arbitrate.word(), Step::Return.word()]);
+        }
+        words
+    }
+}
+
+/// Interrupts enabled, concurrent mode, CPL 7, top level disabled and not in service; every pin falling.
+fn meet_premises(image: &mut [u8]) {
+    for (index, byte) in [(230, 0x97), (242, 0x00), (247, 0x00), (st9::MARK, 0)] {
+        if let Some(stored) = image.get_mut(index) {
+            *stored = byte;
+        }
+    }
+}
+
+/// The steps one by one, as a run is said to do them.
+fn one_by_one(image: &mut [u8], channels: &[Channel], words: &[u64]) -> Result<Done, RunError> {
+    st9::run(image, channels, &[])?;
+    let mut last = None;
+    for (index, word) in words.iter().enumerate() {
+        let before = image.to_vec();
+        match st9::step(image, channels, Step::Word(*word)) {
+            Ok(answer) => last = Some(answer),
+            Err(refusal) => {
+                assert_eq!(image, before, "a refused step changed the image");
+                return Err(RunError::Step { refusal, index });
+            }
+        }
+    }
+    Ok(Done { steps: words.len(), last })
+}
+
+#[test]
+fn a_run_is_its_steps_one_by_one() {
+    let mut random = Random(0x0092_0150);
+    let mut refused = [0; 8];
+    for _ in 0..20_000 {
+        let start = random.image();
+        let (channels, words) = (random.channels(), random.words());
+        let (mut whole, mut single) = (start.clone(), start);
+        let done = st9::run(&mut whole, &channels, &words);
+        assert_eq!(done, one_by_one(&mut single, &channels, &words));
+        assert_eq!(whole, single);
+        if let Err(RunError::Call(refusal) | RunError::Step { refusal, .. }) = done {
+            refused[refusal.number() as usize] += 1;
+        }
+    }
+    assert!(refused[1..].iter().all(|count| *count > 0), "{refused:?}");
+}
+
+#[test]
+fn a_wait_keeps_to_its_bound() {
+    let mut random = Random(0x0092_0250);
+    let mut within = 0;
+    for _ in 0..20_000 {
+        let mut image = random.image();
+        let (mut channels, mut words) = (random.channels(), random.words());
+        let source = Source(random.below(22) as u32);
+        if random.below(2) == 0 {
+            meet_premises(&mut image);
+            channels.clear();
+            words = random.waiting();
+        }
+        let before = image.clone();
+        let bound = st9::bound(&image, &channels, source, &words);
+        assert_eq!(image, before);
+        let waited = st9::wait(&mut image, &channels, source, &words);
+        match (bound, waited) {
+            (Err(refusal), Err(WaitError::Call(same))) => assert_eq!(refusal, same),
+            (Err(_), _) | (_, Err(WaitError::Call(_))) => panic!("{bound:?}, {waited:?}"),
+            (Ok(Bound::Within { outranking, triggers, bound }), Ok(waited)) => {
+                within += 1;
+                assert_eq!(bound, outranking + triggers + 1);
+                match waited {
+                    Wait::Acknowledged { arbitrations } => assert!(arbitrations <= bound),
+                    Wait::Ended { arbitrations } => assert!(arbitrations < bound),
+                }
+            }
+            _ => {}
+        }
+    }
+    assert!(within > 500, "{within}");
+}
+
+#[test]
+fn views_are_parts_of_the_image() {
+    let mut random = Random(0x0092_0124);
+    for _ in 0..2_000 {
+        let image = random.image();
+        let page = random.below(70) as u32;
+        let start = 240 + 16 * page as usize;
+        match st9::view(&image, page) {
+            Ok(bytes) => assert!(std::ptr::eq(bytes, &image[start..start + 16])),
+            Err(Refusal::ImageLength) => assert_ne!(image.len(), st9::IMAGE_LENGTH),
+            Err(refusal) => assert!(refusal == Refusal::Register && page > 63),
+        }
+    }
+    let image = vec![0; st9::IMAGE_LENGTH];
+    assert_eq!(st9::view(&image, u32::MAX), Err(Refusal::Register));
+    assert_eq!(st9::view(&[], u32::MAX), Err(Refusal::ImageLength));
+}
+
+#[test]
+fn nothing_lent() {
+    assert_eq!(st9::step(&mut [], &[], Step::Arbitrate), Err(Refusal::ImageLength));
+    assert_eq!(st9::run(&mut [], &[], &[]), Err(RunError::Call(Refusal::ImageLength)));
+    let mut image = vec![0; st9::IMAGE_LENGTH];
+    assert_eq!(st9::run(&mut image, &[], &[]), Ok(Done { steps: 0, last: None }));
+    let beyond = Source(u32::MAX);
+    let refused = Err(WaitError::Call(Refusal::Number));
+    assert_eq!(st9::wait(&mut image, &[], beyond, &[]), refused);
+    assert_eq!(st9::bound(&image, &[], beyond, &[]), Err(Refusal::Number));
+}
+
+#[test]
+fn refusals_in_words() {
+    let error = RunError::Step { refusal: Refusal::UnknownKind, index: 3 };
+    assert_eq!(error.to_string(), "step 3 refused with 7: step or trigger kind unknown");
+    let error = WaitError::Call(Refusal::ImageLength);
+    assert_eq!(error.to_string(), "refused with 1: image length is not 1,265");
+    for (refusal, number) in Refusal::ALL.into_iter().zip(1..) {
+        assert_eq!(u64::from(refusal.number()), number);
+        assert_eq!(Refusal::from_number(number), Some(refusal));
+    }
+    assert_eq!(Refusal::from_number(0), None);
+    assert_eq!(Refusal::from_number(8), None);
+}

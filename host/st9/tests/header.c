@@ -1,0 +1,110 @@
+/* What a C compiler makes of include/st9.h: the layout, the numbers and the step words, a line each; and one call of each function. */
+#include "st9.h"
+
+#include <inttypes.h>
+#include <stdio.h>
+#include <string.h>
+
+_Static_assert(sizeof(st9_channel) == ST9_CHANNEL_BYTES, "a record is its seven bytes");
+_Static_assert(sizeof(st9_answer) == 48, "an answer is six numbers");
+_Static_assert(offsetof(st9_answer, refusal) == 8 && offsetof(st9_answer, steps) == 16, "in this order");
+_Static_assert(offsetof(st9_answer, byte) == 24 && offsetof(st9_answer, lost) == 24 && offsetof(st9_answer, maskable) == 24, "first");
+_Static_assert(offsetof(st9_answer, source) == 24 && offsetof(st9_answer, arbitrations) == 24 && offsetof(st9_answer, outranking) == 24, "first");
+_Static_assert(offsetof(st9_answer, tlip) == 32 && offsetof(st9_answer, level) == 32 && offsetof(st9_answer, ended) == 32, "second");
+_Static_assert(offsetof(st9_answer, triggers) == 32 && offsetof(st9_answer, vector) == 40 && offsetof(st9_answer, bound) == 40, "second, third");
+_Static_assert(offsetof(st9_channel, data) == 5 && offsetof(st9_channel, direction) == 6, "the order of a record");
+
+static void line(const char *name, uint64_t number)
+{
+    printf("%s %" PRIu64 "\n", name, number);
+}
+
+#define LINE(name) line(#name, name)
+
+static void kinds(void)
+{
+    LINE(ST9_NO_STEP);
+    LINE(ST9_BYTE);
+    LINE(ST9_WRITTEN);
+    LINE(ST9_TRIGGERED);
+    LINE(ST9_NOTHING);
+    LINE(ST9_TOP_LEVEL);
+    LINE(ST9_INTERRUPT);
+    LINE(ST9_TRANSFERRED);
+    LINE(ST9_RETURNED);
+    LINE(ST9_RESET);
+    LINE(ST9_REFUSED);
+    LINE(ST9_REFUSED_CALL);
+    LINE(ST9_REFUSED_STEP);
+    LINE(ST9_ENDED);
+    LINE(ST9_ACKNOWLEDGED);
+    LINE(ST9_NESTED);
+    LINE(ST9_DMA_ENABLED);
+    LINE(ST9_TOP_LEVEL_ENABLED);
+    LINE(ST9_TOP_LEVEL_IN_SERVICE);
+    LINE(ST9_NOT_PENDING);
+    LINE(ST9_MASKED);
+    LINE(ST9_LEVEL_NOT_ABOVE);
+    LINE(ST9_OTHER_STEP);
+    LINE(ST9_INTERRUPTS_DISABLED);
+    LINE(ST9_WITHIN);
+}
+
+static void words(void)
+{
+    line("read", st9_read(ST9_EIPR));
+    line("read of a number that is too large", st9_read(UINT32_MAX));
+    line("write", st9_write(ST9_EIMR, 0xFF));
+    line("write of no byte", st9_write(ST9_EIMR, 0x100));
+    line("pin edge", st9_pin_edge(ST9_INTB0, ST9_RISING));
+    line("pin edge of a direction that is too large", st9_pin_edge(ST9_INTB0, 256));
+    line("watchdog", st9_watchdog());
+    line("nmi edge", st9_nmi_edge(ST9_RISING));
+    line("request", st9_request(11));
+    line("request of a number that is too large", st9_request(UINT32_MAX));
+    line("arbitrate", st9_arbitrate());
+    line("return", st9_return());
+    line("reset", st9_reset());
+}
+
+static void answer(const char *call, st9_answer a)
+{
+    printf("%s: %" PRIu64 " %" PRIu64 " %" PRIu64 " %" PRIu64 " %" PRIu64 " %" PRIu64 "\n", call, a.kind, a.refusal, a.steps, a.first, a.second, a.third);
+}
+
+/* One record with DMA off, its IP 1 and its interrupt unmasked at level 2; and INTA0 pending at level 0. */
+static void calls(void)
+{
+    const st9_channel list[] = {{9, 240, 241, 242, 243, 244, ST9_TO_REGISTER_FILE}};
+    const uint8_t *bytes = (const uint8_t *)list;
+    uint8_t image[ST9_IMAGE_LENGTH] = {0};
+    image[ST9_CICR] = 0x97;
+    image[ST9_PAGED(0, ST9_EIPR)] = 1;
+    image[ST9_PAGED(0, ST9_EIMR)] = 1;
+    image[ST9_PAGED(0, ST9_EIVR)] = 0x46;
+    image[ST9_PAGED(9, 240)] = 0x2A;
+    image[ST9_PAGED(9, 241)] = 0x35;
+    const uint64_t list_of_steps[] = {st9_arbitrate(), st9_return(), st9_arbitrate()};
+    uint8_t other[ST9_IMAGE_LENGTH];
+    memcpy(other, image, sizeof image);
+
+    answer("bound", st9_bound(image, sizeof image, bytes, sizeof list, ST9_FIRST_CHANNEL, list_of_steps, 3));
+    answer("wait", st9_wait(other, sizeof other, bytes, sizeof list, ST9_FIRST_CHANNEL, list_of_steps, 3));
+    answer("step", st9_step(image, sizeof image, bytes, sizeof list, st9_arbitrate()));
+    answer("run", st9_run(image, sizeof image, bytes, sizeof list, list_of_steps + 1, 2));
+    answer("run of no steps and no list", st9_run(image, sizeof image, NULL, 0, NULL, 0));
+    answer("bytes that are no whole record", st9_step(image, sizeof image, bytes, sizeof list - 1, st9_return()));
+    answer("an image that is too short", st9_step(image, sizeof image - 1, bytes, sizeof list, st9_return()));
+    line("view of page 9", (uint64_t)(st9_view(image, sizeof image, 9) - image));
+    line("view of page 64 is null", st9_view(image, sizeof image, 64) == NULL);
+    line("its number", st9_view_number(image, sizeof image, 64));
+    line("IDCR after", st9_view(image, sizeof image, 9)[0]);
+}
+
+int main(void)
+{
+    kinds();
+    words();
+    calls();
+    return 0;
+}

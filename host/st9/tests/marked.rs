@@ -1,0 +1,150 @@
+//! Document 01's marked examples C01 to C13 through the safe wrapper; whole images are compared.
+
+use st9::register::{CICR, EIMR, EIPLR, EIPR, EIVR, MODER, NICR};
+use st9::{place, step, Answer, Channel, Edge, Effect, Refusal, Source, Step, IMAGE_LENGTH, MARK};
+
+const RECORD: Channel =
+    Channel { page: 9, idcr: 240, ivr: 241, dcpr: 242, dapr: 243, data: 244, direction: 0 };
+
+/// An image and a channel list that steps are done on.
+struct Part {
+    image: Vec<u8>,
+    channels: Vec<Channel>,
+}
+
+impl Part {
+    /// EIVR 46h and the registers given, all else 0.
+    fn new(registers: &[(u8, u8)]) -> Part {
+        let mut part = Part { image: vec![0; IMAGE_LENGTH], channels: Vec::new() };
+        part.image[place(0, EIVR)] = 0x46;
+        part.put(registers);
+        part
+    }
+
+    fn put(&mut self, registers: &[(u8, u8)]) {
+        for (register, byte) in registers {
+            self.image[place(0, *register)] = *byte;
+        }
+    }
+
+    /// C09's record, with its IDCR and the pair R16 and R17.
+    fn with_record(mut self, idcr: u8, address: u8, counter: u8) -> Part {
+        self.channels.push(RECORD);
+        for (register, byte) in [(240, idcr), (242, 0x11), (244, 0x5A)] {
+            self.image[place(9, register)] = byte;
+        }
+        self.put(&[(16, address), (17, counter)]);
+        self
+    }
+
+    /// Does a step, and checks its answer and that it changed the bytes given and no other.
+    fn check(&mut self, done: Step, answer: Result<Answer, Refusal>, changed: &[(usize, u8)]) {
+        let mut expected = self.image.clone();
+        for (index, byte) in changed {
+            expected[*index] = *byte;
+        }
+        assert_eq!(step(&mut self.image, &self.channels, done), answer);
+        assert_eq!(self.image, expected);
+    }
+}
+
+fn interrupt(source: Source, level: u8, vector: u8) -> Result<Answer, Refusal> {
+    Ok(Answer::Interrupt { source, level, vector })
+}
+
+const fn byte_of(register: u8) -> usize {
+    place(0, register)
+}
+
+#[test]
+fn c01_reset() {
+    let mut part = Part::new(&[(EIVR, 0)]);
+    let changed =
+        [(byte_of(CICR), 0x87), (byte_of(MODER), 0xE0), (byte_of(EIPLR), 0xFF), (byte_of(EIVR), 6)];
+    part.check(Step::Reset, Ok(Answer::Reset), &changed);
+}
+
+#[test]
+fn c02_raised_then_merged() {
+    let mut part = Part::new(&[]);
+    let edge = Step::Pin { pin: 1, edge: Edge::Falling };
+    let told = |maskable| Ok(Answer::Triggered { maskable, tlip: Effect::NotSelected });
+    part.check(edge, told(Effect::Raised), &[(byte_of(EIPR), 0x02)]);
+    part.check(edge, told(Effect::Merged), &[]);
+}
+
+#[test]
+fn c03_c04_one_after_the_other() {
+    let mut part = Part::new(&[(CICR, 0x97), (EIPR, 0x03), (EIMR, 0x03), (EIPLR, 0xFC)]);
+    let (cicr, eipr) = (byte_of(CICR), byte_of(EIPR));
+    part.check(Step::Arbitrate, interrupt(Source::INTA0, 0, 0x40), &[(cicr, 0x87), (eipr, 0x02)]);
+    part.check(Step::Return, Ok(Answer::Returned), &[(cicr, 0x97)]);
+    part.check(Step::Arbitrate, interrupt(Source::INTA1, 1, 0x42), &[(cicr, 0x87), (eipr, 0x00)]);
+}
+
+#[test]
+fn c05_nested() {
+    let mut part = Part::new(&[(CICR, 0x9C), (EIPR, 0x01), (EIMR, 0x01), (EIPLR, 0xFC)]);
+    let (cicr, eipr, nicr) = (byte_of(CICR), byte_of(EIPR), byte_of(NICR));
+    let changed = [(cicr, 0x88), (eipr, 0x00), (nicr, 0x10)];
+    part.check(Step::Arbitrate, interrupt(Source::INTA0, 0, 0x40), &changed);
+    part.check(Step::Return, Ok(Answer::Returned), &[(cicr, 0x9C), (nicr, 0x00)]);
+}
+
+#[test]
+fn c06_c07_levels() {
+    let mut part = Part::new(&[(CICR, 0x97), (EIPLR, 0xFF), (EIMR, 0xFF), (EIPR, 0x80)]);
+    part.check(Step::Arbitrate, Ok(Answer::Nothing), &[]);
+    part.put(&[(EIPR, 0x40)]);
+    let changed = [(byte_of(CICR), 0x87), (byte_of(EIPR), 0)];
+    part.check(Step::Arbitrate, interrupt(Source::INTD0, 6, 0x4C), &changed);
+
+    let mut part = Part::new(&[(CICR, 0x92), (EIPLR, 0xFD), (EIPR, 0x01), (EIMR, 0x01)]);
+    part.check(Step::Arbitrate, Ok(Answer::Nothing), &[]);
+    part.put(&[(CICR, 0x93)]);
+    let changed = [(byte_of(CICR), 0x83), (byte_of(EIPR), 0)];
+    part.check(Step::Arbitrate, interrupt(Source::INTA0, 2, 0x40), &changed);
+}
+
+#[test]
+fn c08_top_level() {
+    let mut part = Part::new(&[(CICR, 0xC7), (NICR, 0x80)]);
+    let top_level = Ok(Answer::TopLevel { vector: 0x04 });
+    part.check(Step::Arbitrate, top_level, &[(byte_of(CICR), 0x87), (MARK, 1)]);
+    part.check(Step::Arbitrate, Ok(Answer::Nothing), &[]);
+    part.check(Step::Return, Ok(Answer::Returned), &[(MARK, 0)]);
+}
+
+#[test]
+fn c09_c10_transfers() {
+    let source = Source::channel(0);
+    let idcr = place(9, 240);
+    let mut part = Part::new(&[(CICR, 0x87)]).with_record(0x3A, 20, 1);
+    let ended = Ok(Answer::Transferred { source, ended: true });
+    part.check(Step::Arbitrate, ended, &[(20, 0x5A), (16, 21), (17, 0), (idcr, 0x2A)]);
+
+    let mut part = Part::new(&[(CICR, 0x87)]).with_record(0x32, 223, 0);
+    let moved = Ok(Answer::Transferred { source, ended: false });
+    part.check(Step::Arbitrate, moved, &[(223, 0x5A), (16, 224), (17, 255), (idcr, 0x12)]);
+    let raised = Answer::Triggered { maskable: Effect::Raised, tlip: Effect::NotSelected };
+    part.check(Step::Request { record: 0 }, Ok(raised), &[(idcr, 0x32)]);
+    part.check(Step::Arbitrate, Err(Refusal::Pointer), &[]);
+}
+
+#[test]
+fn c11_dma_first() {
+    let registers = [(CICR, 0x97), (EIPLR, 0xFD), (EIPR, 0x01), (EIMR, 0x01)];
+    let mut part = Part::new(&registers).with_record(0x3A, 20, 1);
+    let ended = Ok(Answer::Transferred { source: Source::channel(0), ended: true });
+    let changed = [(20, 0x5A), (16, 21), (17, 0), (place(9, 240), 0x2A)];
+    part.check(Step::Arbitrate, ended, &changed);
+}
+
+#[test]
+fn c12_c13_writes() {
+    let mut part = Part::new(&[(EIPR, 0x03), (NICR, 0x80)]);
+    let eipr = Step::Write { register: EIPR.into(), value: 0x01 };
+    part.check(eipr, Ok(Answer::Written { erased: 0x02 }), &[(byte_of(EIPR), 0x01)]);
+    let nicr = Step::Write { register: NICR.into(), value: 0x00 };
+    part.check(nicr, Ok(Answer::Written { erased: 0x00 }), &[]);
+}
