@@ -13,7 +13,7 @@ use std::time::{Duration, Instant};
 use traces::Trace;
 
 /// The steps of a trace.
-const STEPS: usize = 120_000;
+const STEPS: usize = 30_000;
 
 /// The time for the rounds of a trace, and the fewest rounds.
 const TIME: Duration = Duration::from_secs(4);
