@@ -34,42 +34,75 @@ extern "C" {
 /* The byte of an image that register r (240 to 255) of page p (0 to 63) has. A register below 240 has the byte of its number. */
 #define ST9_PAGED(p, r) (240 + 16 * (p) + ((r) - 240))
 
-/* The registers that document 01 names, by their number; those from ST9_EITR on are of page 0. */
+/* The registers that document 01 names, by their number. */
 enum st9_register {
-    ST9_CICR = 230,
-    ST9_PPR = 234,
-    ST9_MODER = 235,
-    ST9_EITR = 242,
-    ST9_EIPR = 243,
-    ST9_EIMR = 244,
-    ST9_EIPLR = 245,
-    ST9_EIVR = 246,
-    ST9_NICR = 247
+    ST9_CICR = 230,   /* central interrupt control */
+    ST9_PPR = 234,    /* page pointer: bits 7:2 are the page that R240 to R255 go to */
+    ST9_MODER = 235,  /* mode */
+    ST9_EITR = 242,   /* page 0, external interrupt trigger event: bit k is 1 where a rising edge triggers pin k */
+    ST9_EIPR = 243,   /* page 0, external interrupt pending: bit k is channel k's */
+    ST9_EIMR = 244,   /* page 0, external interrupt mask: bit k is 1 where channel k is unmasked */
+    ST9_EIPLR = 245,  /* page 0, external interrupt priority level: two bits a group, A lowest */
+    ST9_EIVR = 246,   /* page 0, external interrupt vector */
+    ST9_NICR = 247    /* page 0, nested interrupt control */
 };
 
-/* The sources. Record k of the channel list is source ST9_FIRST_CHANNEL + k. Pin k, 0 to 7, is that of source k. */
+/* The bits of CICR. */
+enum st9_cicr {
+    ST9_GCEN = 0x80,  /* global counter enable: stored, without effect here */
+    ST9_TLIP = 0x40,  /* top level interrupt pending */
+    ST9_TLI = 0x20,   /* top level interrupt enabled, where IEN is 1 too */
+    ST9_IEN = 0x10,   /* interrupts enabled */
+    ST9_IAM = 0x08,   /* arbitration mode: 0 concurrent, 1 nested */
+    ST9_CPL = 0x07    /* current priority level */
+};
+
+/* The bits of EIVR. */
+enum st9_eivr {
+    ST9_VECTOR = 0xF0,  /* upper half of the external channels' vectors */
+    ST9_TLTEV = 0x08,   /* 1: a rising edge of NMI triggers */
+    ST9_TLIS = 0x04,    /* source of the top level: 1 NMI, 0 the watchdog */
+    ST9_IAOS = 0x02,    /* source of INTA0: 1 its pin, 0 the watchdog */
+    ST9_EWEN = 0x01     /* external wait enable: stored, without effect here */
+};
+
+/* The bits of NICR. */
+enum st9_nicr {
+    ST9_TLNM = 0x80,  /* top level not maskable; a write sets it and does not clear it */
+    ST9_HL = 0x7F     /* bit x is HLx: level x was left by a nested acknowledgement */
+};
+
+/* The bits of a record's IDCR. */
+enum st9_idcr {
+    ST9_IP = 0x20,  /* pending */
+    ST9_DM = 0x10,  /* DMA enabled */
+    ST9_IM = 0x08,  /* interrupt unmasked */
+    ST9_PRL = 0x07  /* priority level */
+};
+
+/* The sources. Pin k, 0 to 7, is that of source k. */
 enum st9_source {
-    ST9_INTA0 = 0,
-    ST9_INTA1 = 1,
-    ST9_INTB0 = 2,
-    ST9_INTB1 = 3,
-    ST9_INTC0 = 4,
-    ST9_INTC1 = 5,
-    ST9_INTD0 = 6,
-    ST9_INTD1 = 7,
-    ST9_FIRST_CHANNEL = 8
+    ST9_INTA0 = 0,         /* group A: pin 0, or the watchdog */
+    ST9_INTA1 = 1,         /* pin 1 */
+    ST9_INTB0 = 2,         /* group B: pin 2 */
+    ST9_INTB1 = 3,         /* pin 3 */
+    ST9_INTC0 = 4,         /* group C: pin 4 */
+    ST9_INTC1 = 5,         /* pin 5 */
+    ST9_INTD0 = 6,         /* group D: pin 6 */
+    ST9_INTD1 = 7,         /* pin 7 */
+    ST9_FIRST_CHANNEL = 8  /* record 0 of the channel list; record k is ST9_FIRST_CHANNEL + k */
 };
 
 /* The direction of an edge. */
 enum st9_edge {
-    ST9_FALLING = 0,
-    ST9_RISING = 1
+    ST9_FALLING = 0,  /* from 1 to 0 */
+    ST9_RISING = 1    /* from 0 to 1 */
 };
 
 /* The direction of a record's transfers. */
 enum st9_direction {
-    ST9_TO_REGISTER_FILE = 0,
-    ST9_TO_PERIPHERAL = 1
+    ST9_TO_REGISTER_FILE = 0,  /* from the data register into the register file */
+    ST9_TO_PERIPHERAL = 1      /* the reverse */
 };
 
 /*
@@ -78,12 +111,12 @@ enum st9_direction {
  */
 typedef struct st9_channel {
     uint8_t page;
-    uint8_t idcr;
-    uint8_t ivr;
-    uint8_t dcpr;
-    uint8_t dapr;
-    uint8_t data;
-    uint8_t direction;
+    uint8_t idcr;       /* interrupt and DMA control */
+    uint8_t ivr;        /* interrupt vector */
+    uint8_t dcpr;       /* DMA counter pointer */
+    uint8_t dapr;       /* DMA address pointer */
+    uint8_t data;       /* the peripheral's data register */
+    uint8_t direction;  /* enum st9_direction */
 } st9_channel;
 
 /* The refusals of document 01, in the field `refusal` of an answer. */
@@ -100,9 +133,9 @@ enum st9_refusal {
 
 /* What a trigger did to a pending bit. */
 enum st9_effect {
-    ST9_NOT_SELECTED = 0,
-    ST9_RAISED = 1,
-    ST9_MERGED = 2  /* the bit was 1 already */
+    ST9_NOT_SELECTED = 0,  /* nothing: the trigger does not select it */
+    ST9_RAISED = 1,        /* it was 0 and is 1 */
+    ST9_MERGED = 2         /* it was 1 already: two triggers, one acknowledgement */
 };
 
 /* What is answered, in the field `kind`; beside each the fields that it fills. Every other field is 0. */
@@ -143,27 +176,27 @@ enum st9_kind {
 typedef struct st9_answer {
     uint64_t kind;     /* enum st9_kind */
     uint64_t refusal;  /* enum st9_refusal: 0 where nothing was refused */
-    uint64_t steps;
+    uint64_t steps;    /* the steps done, or the index of a step, from 0 */
     union {
-        uint64_t first;
-        uint64_t byte;
-        uint64_t lost;
-        uint64_t maskable;
-        uint64_t source;
-        uint64_t arbitrations;
-        uint64_t outranking;
+        uint64_t first;         /* any of these */
+        uint64_t byte;          /* the byte read, absent bits as 0 */
+        uint64_t lost;          /* EIPR bits that the write took from 1 to 0 */
+        uint64_t maskable;      /* enum st9_effect, of the EIPR or IP bit */
+        uint64_t source;        /* enum st9_source */
+        uint64_t arbitrations;  /* made, refused ones not counted */
+        uint64_t outranking;    /* H */
     };
     union {
-        uint64_t second;
-        uint64_t tlip;
-        uint64_t level;
-        uint64_t ended;
-        uint64_t triggers;
+        uint64_t second;    /* any of these */
+        uint64_t tlip;      /* enum st9_effect, of TLIP */
+        uint64_t level;     /* 0, the highest, to 6 */
+        uint64_t ended;     /* 1 where the block ended, else 0 */
+        uint64_t triggers;  /* E */
     };
     union {
-        uint64_t third;
-        uint64_t vector;
-        uint64_t bound;
+        uint64_t third;   /* any of these */
+        uint64_t vector;  /* of the top level 04h */
+        uint64_t bound;   /* H + E + 1 */
     };
 } st9_answer;
 
@@ -188,9 +221,28 @@ static inline const uint8_t *st9_view(const uint8_t *image, size_t image_length,
     return st9_view_number(image, image_length, page) == 0 ? image + ST9_PAGED(page, 240) : NULL;
 }
 
-/* ---- Step words: kind * 2^48 + trigger * 2^32 + first * 2^8 + second. */
+/* ---- Step words: kind * 2^48 + trigger * 2^32 + first * 2^8 + second. A field that a step does not use is not looked at. */
 
-/* Any kind (16 bits), trigger kind (16 bits), first (24 bits) and second (8 bits); higher bits are cut off. */
+/* The kind of a step, 16 bits. Any other is refused with 7. */
+enum st9_step_kind {
+    ST9_STEP_READ = 0,       /* first: a register */
+    ST9_STEP_WRITE = 1,      /* first: a register, second: a value */
+    ST9_STEP_TRIGGER = 2,    /* trigger: its kind */
+    ST9_STEP_ARBITRATE = 3,  /* an arbitration */
+    ST9_STEP_RETURN = 4,     /* a return from an interrupt */
+    ST9_STEP_RESET = 5,      /* a reset */
+    ST9_STEP_UNKNOWN = 0xFFFF  /* one of the others */
+};
+
+/* The kind of a trigger, 16 bits. Any other is refused with 7. */
+enum st9_trigger_kind {
+    ST9_TRIGGER_PIN = 0,       /* first: a pin, second: a direction */
+    ST9_TRIGGER_WATCHDOG = 1,  /* the watchdog's end of count */
+    ST9_TRIGGER_NMI = 2,       /* second: a direction */
+    ST9_TRIGGER_REQUEST = 3    /* first: a record of the channel list */
+};
+
+/* Any kind, trigger kind, first (24 bits) and second (8 bits); higher bits are cut off. */
 static inline uint64_t st9_word(uint64_t kind, uint64_t trigger, uint64_t first, uint64_t second)
 {
     return (kind & 0xFFFF) << 48 | (trigger & 0xFFFF) << 32 | (first & 0xFFFFFF) << 8 | (second & 0xFF);
@@ -205,55 +257,55 @@ static inline uint64_t st9_fit(uint64_t number, uint64_t largest)
 /* A read of register `reg`. */
 static inline uint64_t st9_read(uint32_t reg)
 {
-    return st9_word(0, 0, st9_fit(reg, 0xFFFFFF), 0);
+    return st9_word(ST9_STEP_READ, 0, st9_fit(reg, 0xFFFFFF), 0);
 }
 
 /* A write of a value to register `reg`. No byte is over 255: such a value makes a word of unknown kind, which is refused with 7. */
 static inline uint64_t st9_write(uint32_t reg, uint32_t value)
 {
-    return value > 0xFF ? st9_word(0xFFFF, 0, 0, 0) : st9_word(1, 0, st9_fit(reg, 0xFFFFFF), value);
+    return value > 0xFF ? st9_word(ST9_STEP_UNKNOWN, 0, 0, 0) : st9_word(ST9_STEP_WRITE, 0, st9_fit(reg, 0xFFFFFF), value);
 }
 
 /* An edge at a pin, 0 to 7. */
 static inline uint64_t st9_pin_edge(uint32_t pin, uint32_t direction)
 {
-    return st9_word(2, 0, st9_fit(pin, 0xFFFFFF), st9_fit(direction, 0xFF));
+    return st9_word(ST9_STEP_TRIGGER, ST9_TRIGGER_PIN, st9_fit(pin, 0xFFFFFF), st9_fit(direction, 0xFF));
 }
 
 /* The watchdog's end of count. */
 static inline uint64_t st9_watchdog(void)
 {
-    return st9_word(2, 1, 0, 0);
+    return st9_word(ST9_STEP_TRIGGER, ST9_TRIGGER_WATCHDOG, 0, 0);
 }
 
 /* An edge at NMI. */
 static inline uint64_t st9_nmi_edge(uint32_t direction)
 {
-    return st9_word(2, 2, 0, st9_fit(direction, 0xFF));
+    return st9_word(ST9_STEP_TRIGGER, ST9_TRIGGER_NMI, 0, st9_fit(direction, 0xFF));
 }
 
 /* A request of record `record` of the channel list, from 0. */
 static inline uint64_t st9_request(uint32_t record)
 {
-    return st9_word(2, 3, st9_fit(record, 0xFFFFFF), 0);
+    return st9_word(ST9_STEP_TRIGGER, ST9_TRIGGER_REQUEST, st9_fit(record, 0xFFFFFF), 0);
 }
 
 /* An arbitration. */
 static inline uint64_t st9_arbitrate(void)
 {
-    return st9_word(3, 0, 0, 0);
+    return st9_word(ST9_STEP_ARBITRATE, 0, 0, 0);
 }
 
 /* A return from an interrupt. */
 static inline uint64_t st9_return(void)
 {
-    return st9_word(4, 0, 0, 0);
+    return st9_word(ST9_STEP_RETURN, 0, 0, 0);
 }
 
 /* A reset. */
 static inline uint64_t st9_reset(void)
 {
-    return st9_word(5, 0, 0, 0);
+    return st9_word(ST9_STEP_RESET, 0, 0, 0);
 }
 
 #ifdef __cplusplus

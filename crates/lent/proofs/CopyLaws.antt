@@ -12,7 +12,7 @@ use lib.Seq.{take-suc, take-suc-set, take-length}
 use borrow.Author.Tests.{leb-true, leb-false, le-leb, lt-leb, lt-ltb, le-ltb, ne-eqb}
 use Rattle.rules.specs.declared.Channel.{Channel}
 use Rattle.rules.specs.declared.Channels.{Channels}
-use Rattle.rules.specs.Channels.{mostRecords, noChannel, listOf, listIn}
+use Rattle.rules.specs.Channels.{mostRecords, noChannel, listOf, recordLength, listIn}
 use Rattle.lent.specs.Copies.{capped, blankOf, putOf, copiedUpTo, copyOf}
 
 -- ---- the count
@@ -123,6 +123,6 @@ through f alike cs = go (leb (length cs) mostRecords) refl
 -- ---- a list lent as bytes
 
 -- bytes that are no whole number of records are kept as a count of thirteen with nothing put
-pub blank-rest : (bs : List ℕ) → length bs % 7 ≢ 0 → blankOf 13 ≡ copyOf (listIn bs)
+pub blank-rest : (bs : List ℕ) → length bs % recordLength ≢ 0 → blankOf (suc mostRecords) ≡ copyOf (listIn bs)
 unfolding listIn copyOf copiedUpTo
 blank-rest bs rest = rw (ne-eqb _ _ rest) refl

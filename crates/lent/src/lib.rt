@@ -4,9 +4,9 @@ use rules::Channels;
 use rules::MOST_RECORDS;
 use rules::RECORD_BYTES;
 ghost use mathlib.Core.Path.{_≡_};
-ghost use Prim.Native.Nat.{_+_, _*_, _<_};
+ghost use Prim.Native.Nat.{_+_, _*_, _≤_, _<_};
 ghost use lib.ListN.{length, drop};
-ghost use Rattle.rules.specs.Channels.{recordIn, listIn};
+ghost use Rattle.rules.specs.Channels.{mostRecords, recordLength, recordIn, listIn};
 ghost use Rattle.lent.specs.Copies.{blankOf, putOf, copyOf};
 
 // A list by value with nothing put yet. A count over twelve is kept as thirteen.
@@ -62,8 +62,8 @@ pub fn copied(cs: &[Channel]) -> Channels
 
 // Record i of the bytes.
 fn record_at(bytes: &[u8], i: usize) -> Channel
-    requires { ⌜ (i < 13) × (7 * i + 6 < length (now bytes)) ⌝ }
-    ensures { λ c. ⌜ c ≡ recordIn (drop (7 * i) (now (bytes .entry))) ⌝ }
+    requires { ⌜ (i ≤ mostRecords) × (recordLength * i + 6 < length (now bytes)) ⌝ }
+    ensures { λ c. ⌜ c ≡ recordIn (drop (recordLength * i) (now (bytes .entry))) ⌝ }
 {
     let start = RECORD_BYTES * i;
     Channel {

@@ -120,3 +120,10 @@ pub found-below : (ranks : List ℕ) (least n l kind : ℕ) → n ≤ positionLi
 unfolding foundOfKind
 found-below ranks least n l kind h k b =
     first-nobody (found ranks l kind) n (λ p g. found-none ranks l kind p (λ e. omega (arith, k p (omega arith))))
+
+-- where no position has a rank, nobody is found
+pub scanned-nobody : (ranks : List ℕ) (n : ℕ) → n ≤ positionLimit → NoneBelow ranks noRank → scanned ranks n ≡ winner.Nobody
+unfolding scanned foundAtLevel
+scanned-nobody ranks n h under =
+    first-nobody (foundAtLevel ranks n) 8
+    (λ l below. first-nobody (foundOfKind ranks n l) 2 (λ kind two. found-below ranks noRank n l kind h under (omega arith)))

@@ -118,6 +118,10 @@ fn gather_externals(image: &[u8]) -> Gathered
     let mut least = NO_RANK;
     for k in 0..EXTERNALS {
         let rank = rank_of(image, external_request(image, k as u8));
+        // Most channels have none: nothing to store.
+        if rank == NO_RANK {
+            continue;
+        }
         ranks[k] = rank;
         least = lower(least, rank);
     }
@@ -136,7 +140,7 @@ fn gather(image: &[u8], all: Channels) -> Gathered
         let c = all.items[k];
         let idcr = image[page_byte(c.page, c.idcr)];
         let rank = rank_of(image, request_by(idcr));
-        // Most records have none: nothing to store.
+        // Most records have none, either.
         if rank == NO_RANK {
             continue;
         }
@@ -182,12 +186,15 @@ fn scan(ranks: [u8; POSITIONS], least: u8, positions: usize) -> Winner
     winner
 }
 
-// The winner: levels from 0 up, within a level DMA before interrupt, then positions from 0 up.
+// The winner: levels from 0 up, within a level DMA before interrupt, then positions from 0 up. Where nothing has a rank there is nothing to scan.
 pub fn winner_of(image: &[u8], all: Channels) -> Winner
     requires { ⌜ (length (now image) ≡ imageLength) × (listOk (listOf all) ≡ true) ⌝ }
     ensures { λ w. ⌜ w ≡ winnerOf (now (image .entry)) (listOf all) ⌝ }
 {
     let gathered = gather(image, all);
+    if gathered.least == NO_RANK {
+        return Winner::Nobody;
+    }
     let ranks = gathered.ranks;
     scan(ranks, gathered.least, EXTERNALS + all.count)
 }

@@ -86,6 +86,10 @@ listOf all = cond (ltb mostRecords (all .count)) (all .items ++ (noChannel ∷ [
 
 -- ---- a list lent as bytes, as C has it
 
+-- the bytes of a record
+abbrev pub recordLength : ℕ
+recordLength = 7
+
 -- a record as seven bytes: page, IDCR, IVR, DCPR, DAPR, data, direction; records one after another
 unfoldable pub bytesOf : List Channel → List ℕ
 bytesOf [] = []
@@ -107,8 +111,8 @@ recordIn bs =
 -- the n records that they begin with
 unfoldable pub recordsIn : ℕ → List ℕ → List Channel
 recordsIn zero bs = []
-recordsIn (suc n) bs = recordIn bs ∷ recordsIn n (drop 7 bs)
+recordsIn (suc n) bs = recordIn bs ∷ recordsIn n (drop recordLength bs)
 
 -- the list that bytes stand for: the one that they are the bytes of; one of thirteen records, which no rule allows, where their number is no multiple of seven
 unfoldable pub listIn : List ℕ → List Channel
-listIn bs = cond (eqb (length bs % 7) 0) (recordsIn (length bs / 7) bs) (replicate 13 noChannel)
+listIn bs = cond (eqb (length bs % recordLength) 0) (recordsIn (length bs / recordLength) bs) (replicate (suc mostRecords) noChannel)

@@ -4,6 +4,7 @@ use crate::help;
 use crate::output::Failure;
 use st9::Source;
 use std::ffi::{OsStr, OsString};
+use std::os::unix::ffi::{OsStrExt, OsStringExt};
 
 /// What is to be done.
 pub enum Command {
@@ -37,12 +38,9 @@ pub fn command(words: &[OsString]) -> Result<Command, Failure> {
     let Some((name, rest)) = words.split_first() else {
         return Err(Failure(help::USAGE.to_string()));
     };
-    let Some(name) = name.to_str() else {
-        return Err(usage(&format!("{} is no command", shown(name))));
-    };
     let help_wanted =
         rest.iter().take_while(|word| *word != "--").any(|word| word == "--help" || word == "-h");
-    match name {
+    match name.to_str().unwrap_or_default() {
         "help" | "--help" | "-h" => topic(rest),
         "--version" | "-V" => {
             none_left(rest)?;
@@ -52,10 +50,9 @@ pub fn command(words: &[OsString]) -> Result<Command, Failure> {
         "run" => run(Options::read(rest, &["--json", "--quiet"], &["--save"])?),
         "wait" => wait(Options::read(rest, &["--json"], &["--source"])?),
         "show" => show(Options::read(rest, &["--json"], &["--page"])?),
-        _ => Err(usage(&format!(
-            "{} is no command: expected run, wait, show or help",
-            shown(OsStr::new(name))
-        ))),
+        _ => {
+            Err(usage(&format!("{} is no command: expected run, wait, show or help", shown(name))))
+        }
     }
 }
 
@@ -71,10 +68,14 @@ fn topic(words: &[OsString]) -> Result<Command, Failure> {
 }
 
 fn run(mut options: Options) -> Result<Command, Failure> {
+    let save = options.value("--save");
+    if save.as_deref() == Some(OsStr::new("-")) {
+        return Err(usage("'-' is no file to save to: expected a file's name"));
+    }
     Ok(Command::Run(Run {
         json: options.flag("--json"),
         quiet: options.flag("--quiet"),
-        save: options.value("--save"),
+        save,
         file: options.only("a scenario file")?,
     }))
 }
@@ -85,7 +86,7 @@ fn wait(mut options: Options) -> Result<Command, Failure> {
     let Some(word) = options.value("--source") else {
         return Err(usage(&format!("the source is missing: expected {EXPECTED}")));
     };
-    let source = scenario::source(word.as_encoded_bytes())
+    let source = scenario::source(word.as_bytes())
         .ok_or_else(|| usage(&format!("{} is no source: expected {EXPECTED}", shown(&word))))?;
     let file = options.only("a scenario file")?;
     Ok(Command::Wait(Wait { file, source, json }))
@@ -95,7 +96,7 @@ fn show(mut options: Options) -> Result<Command, Failure> {
     let json = options.flag("--json");
     let page = match options.value("--page") {
         None => None,
-        Some(word) => Some(scenario::number_32(word.as_encoded_bytes()).ok_or_else(|| {
+        Some(word) => Some(scenario::number_32(word.as_bytes()).ok_or_else(|| {
             usage(&format!("{} is no page: expected a number, 0 to 63", shown(&word)))
         })?),
     };
@@ -122,7 +123,7 @@ impl Options {
                 options.others.extend(words);
                 break;
             }
-            if !word.as_encoded_bytes().starts_with(b"--") {
+            if word == "-" || !word.as_bytes().starts_with(b"-") {
                 options.others.push(word);
                 continue;
             }
@@ -131,7 +132,9 @@ impl Options {
                 options.add(flag, None)?;
             } else if let Some(option) = known(valued, name) {
                 let value = inline.or_else(|| value(option, &mut words));
-                let value = value.ok_or_else(|| usage(&format!("{option} has no value")))?;
+                let value = value.ok_or_else(|| {
+                    usage(&format!("{option} has no value: expected one after it"))
+                })?;
                 options.add(option, Some(value))?;
             } else {
                 let expected = [flags, valued].concat().join(", ");
@@ -172,17 +175,17 @@ impl Options {
     }
 }
 
-/// An option's name and the value after `=`; no name where it is not in UTF-8.
-fn split(word: &OsStr) -> (&str, Option<OsString>) {
-    let text = word.to_str().unwrap_or_default();
-    match text.split_once('=') {
-        Some((name, value)) => (name, Some(value.into())),
-        None => (text, None),
+/// An option's name and the value after `=`, which may be in any bytes, as a file's name is.
+fn split(word: &OsStr) -> (&[u8], Option<OsString>) {
+    let bytes = word.as_bytes();
+    match bytes.iter().position(|byte| *byte == b'=') {
+        Some(equals) => (&bytes[..equals], Some(OsString::from_vec(bytes[equals + 1..].to_vec()))),
+        None => (bytes, None),
     }
 }
 
-fn known(names: &[&'static str], name: &str) -> Option<&'static str> {
-    names.iter().copied().find(|known| *known == name)
+fn known(names: &[&'static str], name: &[u8]) -> Option<&'static str> {
+    names.iter().copied().find(|known| known.as_bytes() == name)
 }
 
 /// The value that stands after an option. `channel 0` may be two words.
@@ -197,7 +200,7 @@ fn value(option: &str, words: &mut impl Iterator<Item = OsString>) -> Option<OsS
 
 fn none_left(words: &[OsString]) -> Result<(), Failure> {
     match words.first() {
-        Some(word) => Err(usage(&format!("{} is one word too many", shown(word)))),
+        Some(word) => Err(usage(&format!("{} is one word too many: expected none", shown(word)))),
         None => Ok(()),
     }
 }
@@ -207,5 +210,5 @@ fn usage(problem: &str) -> Failure {
 }
 
 fn shown(word: &OsStr) -> String {
-    format!("'{}'", word.as_encoded_bytes().escape_ascii())
+    format!("'{}'", word.as_bytes().escape_ascii())
 }

@@ -51,12 +51,21 @@ impl Error for ScenarioError {}
 impl Scenario {
     /// Reads a scenario from the bytes of its file.
     pub fn parse(text: &[u8]) -> Result<Scenario, ScenarioError> {
+        Scenario::parse_telling(text, |_| ())
+    }
+
+    /// The same; tells how many lines are read, before each.
+    pub fn parse_telling(
+        text: &[u8],
+        mut tell: impl FnMut(usize),
+    ) -> Result<Scenario, ScenarioError> {
         // Some editors put a byte order mark before the first line.
         let text = text.strip_prefix(b"\xEF\xBB\xBF").unwrap_or(text);
         let text = text.strip_suffix(b"\n").unwrap_or(text);
         let mut scenario: Option<Scenario> = None;
         let mut last = 1;
         for (position, content) in text.split(|byte| *byte == b'\n').enumerate() {
+            tell(position);
             last = position + 1;
             let wrong = |problem| ScenarioError { line: last, problem };
             let Some(statement) = parse::statement(content).map_err(wrong)? else {

@@ -16,7 +16,7 @@ st9: answers from the proved model of the ST92F150's interrupt and DMA registers
   st9 help [scenario | json]
   st9 --version
 
-FILE and IMAGE may be - for standard input. Steps are counted from 0, as document 01 counts them.
+FILE, and IMAGE of show, may be - for standard input. Steps are counted from 0, as document 01 counts them.
 `st9 help scenario` has the statements of a scenario, `st9 help json` the objects that --json prints.
 
 Exit codes: 0 done; 1 refused, with document 01's number; 2 bad usage or file.
@@ -36,12 +36,14 @@ then, before the first step, stored bytes and the channel list:
   set R240.p9 3Ah            R240 to R255 of a page
   set MARK 1                 the top-level-in-service mark
   channel page=9 idcr=240 ivr=241 dcpr=242 dapr=243 data=244 in
-                             a record; in: peripheral to register file, out: the reverse (or direction=N)
+                             a record; in: peripheral to register file, out: the reverse (or direction=N). A list has at
+                             most twelve, on pages 1 to 63, of registers 240 to 255, none of a page twice; another is
+                             refused with 2
 
 then the steps:
 
   read EIPR                  a register by name or number; R240 to R255 are those of the page that PPR selects
-  write EIPR 00h
+  write EIPR 00h             answers the bits of EIPR that it erased; an IP or TLIP that it erased is among the changes alone
   edge INTB0 falling         a pin by the name of its source or by number; falling, rising or a number
   watchdog                   the watchdog's end of count
   nmi rising

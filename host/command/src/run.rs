@@ -32,8 +32,10 @@ pub fn run(options: &Run, output: &mut Output) -> Result<Outcome, Failure> {
         false => result_words(done, &scenario),
     });
     if let Some(file) = &options.save {
-        std::fs::write(file, &image)
-            .map_err(|error| Failure(format!("st9: {}: {error}", Path::new(file).display())))?;
+        std::fs::write(file, &image).map_err(|error| {
+            let shown = Path::new(file).display();
+            Failure(format!("st9: {shown}: {error}: expected a file that can be written"))
+        })?;
     }
     match done {
         Ok(_) => Ok(Outcome::Done),
@@ -52,7 +54,7 @@ fn steps(
     st9::run(image, &scenario.channels, &[])?;
     let count = scenario.steps.len();
     let width = count.saturating_sub(1).to_string().len();
-    let mut progress = Progress::new(count, true);
+    let mut progress = Progress::beside_lines(count, "steps");
     for (index, step) in scenario.steps.iter().enumerate() {
         progress.at(index);
         let before = Before::of(image);
@@ -66,18 +68,16 @@ fn steps(
             });
         }
         if let Err(refusal) = answer {
-            progress.end();
             return Err(RunError::Step { refusal, index });
         }
     }
-    progress.end();
     Ok(count)
 }
 
 /// All steps by one call; by a few where progress is shown between them.
 fn whole(scenario: &Scenario, image: &mut [u8]) -> Result<usize, RunError> {
     let words = scenario.words();
-    let mut progress = Progress::new(words.len(), false);
+    let mut progress = Progress::new(words.len(), "steps");
     if !progress.is_shown() {
         return st9::run(image, &scenario.channels, &words).map(|done| done.steps);
     }
@@ -87,10 +87,9 @@ fn whole(scenario: &Scenario, image: &mut [u8]) -> Result<usize, RunError> {
             RunError::Step { refusal, index } => RunError::Step { refusal, index: before + index },
             call => call,
         });
-        before += done.inspect_err(|_| progress.end())?.steps;
+        before += done?.steps;
         progress.at(before);
     }
-    progress.end();
     Ok(before)
 }
 

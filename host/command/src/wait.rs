@@ -3,6 +3,7 @@
 use crate::arguments::Wait as Options;
 use crate::input;
 use crate::output::{Failure, Outcome, Output};
+use crate::progress::Progress;
 use crate::run::line_of;
 use scenario::{bound_words, counted, place_of_step, refused, Object, Scenario};
 use st9::{Bound, Refusal, Wait, WaitError};
@@ -11,8 +12,12 @@ pub fn wait(options: &Options, output: &mut Output) -> Result<Outcome, Failure> 
     let (scenario, mut image) = input::scenario(&options.file)?;
     let words = scenario.words();
     let source = options.source;
+    let progress = Progress::new(words.len(), "steps");
+    progress.whole("the bound over");
     let bound = st9::bound(&image, &scenario.channels, source, &words);
+    progress.whole("the wait report over");
     let waited = st9::wait(&mut image, &scenario.channels, source, &words);
+    drop(progress);
     if options.json {
         let wait = Object::new().text("type", "wait").source(source);
         output.line(&waited_json(wait, waited, &scenario));

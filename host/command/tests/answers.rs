@@ -211,6 +211,29 @@ fn a_full_disk_is_a_failure() {
     assert!(message.starts_with("st9: standard output: "), "{message}");
 }
 
+/// On a terminal, which `script` makes where it is installed, a long trace shows progress; elsewhere it never does.
+#[test]
+fn progress_of_long_traces() {
+    let folder = folder("progress");
+    let text = format!("image zero\n{}", "arbitrate\n".repeat(1_000_001));
+    fs::write(folder.join("long.st9"), text).expect("a scenario");
+    let wait = ["wait", "long.st9", "--source", "INTB0"];
+    let ran = st9_in(&folder, &wait, b"").with_code(0);
+    assert_eq!(ran.err, "");
+    let command = format!("'{}' {}", env!("CARGO_BIN_EXE_st9"), wait.join(" "));
+    let mut terminal = Command::new("script");
+    terminal.args(["-qec", &command, "/dev/null"]).current_dir(&folder).stdin(Stdio::null());
+    let Ok(output) = terminal.output() else {
+        eprintln!("script is not installed: progress on a terminal is not tried");
+        return;
+    };
+    let shown = String::from_utf8_lossy(&output.stdout);
+    assert!(shown.contains("\rst9: the bound over 1000001 steps"), "{shown}");
+    // The last thing on the line of progress is that it is taken away.
+    let end = format!("\r\x1B[K{}", ran.out.replace('\n', "\r\n"));
+    assert!(shown.ends_with(&end), "{shown}");
+}
+
 #[test]
 fn long_traces_are_answered_alike() {
     let text = long_scenario();

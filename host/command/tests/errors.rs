@@ -128,6 +128,18 @@ fn files_that_are_not_there() {
     let save = ["run", "b.st9", "--save", "none/image"];
     let ran = st9_in(&folder, &save, b"").with_code(2);
     assert!(ran.err.starts_with("st9: none/image: "), "{}", ran.err);
+    assert!(ran.err.ends_with(": expected a file that can be written\n"), "{}", ran.err);
+}
+
+/// `-` is standard input on the command line alone: in a scenario it is a file's name.
+#[test]
+fn an_image_named_as_standard_input() {
+    let folder = folder("dash");
+    std::fs::write(folder.join("a.st9"), "image -\n").expect("a scenario");
+    let ran = st9_in(&folder, &["run", "a.st9"], &[0; st9::IMAGE_LENGTH]).with_code(2);
+    assert!(ran.err.starts_with("a.st9:1: image -: "), "{}", ran.err);
+    std::fs::write(folder.join("-"), [0; st9::IMAGE_LENGTH]).expect("an image");
+    st9_in(&folder, &["run", "a.st9"], b"").with_code(0);
 }
 
 /// Bad command lines and what is told of each.
@@ -137,16 +149,18 @@ run => the file is missing: expected a scenario file
 run a b => 'b' is one word too many: expected a scenario file
 run a --page 1 => '--page' is no option here: expected --json, --quiet, --save
 run a --json=1 => '--json=1' is no option here: expected --json, --quiet, --save
-run a --save => --save has no value
+run a --save => --save has no value: expected one after it
+run a --save - => '-' is no file to save to: expected a file's name
+run -q a => '-q' is no option here: expected --json, --quiet, --save
 run --json a --json => --json stands twice: expected it once
 run -- --json --quiet => '--quiet' is one word too many: expected a scenario file
 wait a => the source is missing: expected --source with a name as INTB1 or CH0, or a number
 wait a --source INTE0 => 'INTE0' is no source: expected --source with a name as INTB1 or CH0, or a number
-wait a --source channel => --source has no value
+wait a --source channel => --source has no value: expected one after it
 show a --page x => 'x' is no page: expected a number, 0 to 63
 show => the file is missing: expected an image file, or - for standard input
 help me => 'me' is no topic: expected scenario or json
---version x => 'x' is one word too many";
+--version x => 'x' is one word too many: expected none";
 
 #[test]
 fn bad_usage() {

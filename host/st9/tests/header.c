@@ -50,6 +50,23 @@ static void kinds(void)
     LINE(ST9_WITHIN);
 }
 
+static void registers_and_bits(void)
+{
+    LINE(ST9_CICR);
+    LINE(ST9_PPR);
+    LINE(ST9_MODER);
+    LINE(ST9_EITR);
+    LINE(ST9_EIPR);
+    LINE(ST9_EIMR);
+    LINE(ST9_EIPLR);
+    LINE(ST9_EIVR);
+    LINE(ST9_NICR);
+    line("GCEN, TLIP, TLI, IEN, IAM, CPL", ST9_GCEN << 20 | ST9_TLIP << 16 | ST9_TLI << 12 | ST9_IEN << 8 | ST9_IAM << 4 | ST9_CPL);
+    line("vector, TLTEV, TLIS, IAOS, EWEN", ST9_VECTOR << 16 | ST9_TLTEV << 12 | ST9_TLIS << 8 | ST9_IAOS << 4 | ST9_EWEN);
+    line("TLNM, HL", ST9_TLNM << 8 | ST9_HL);
+    line("IP, DM, IM, PRL", ST9_IP << 12 | ST9_DM << 8 | ST9_IM << 4 | ST9_PRL);
+}
+
 static void words(void)
 {
     line("read", st9_read(ST9_EIPR));
@@ -104,6 +121,7 @@ static void calls(void)
 int main(void)
 {
     kinds();
+    registers_and_bits();
     words();
     calls();
     return 0;

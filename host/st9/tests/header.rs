@@ -29,73 +29,99 @@ fn printed_by(source: &Path, name: &str) -> String {
 }
 
 /// A word by its fields.
-fn word(kind: u64, trigger: u64, first: u64, second: u64) -> u64 {
+const fn word(kind: u64, trigger: u64, first: u64, second: u64) -> u64 {
     kind << 48 | trigger << 32 | first << 8 | second
 }
 
+/// The kinds of answers, as this crate has them.
+const KINDS: [(&str, u64); 25] = [
+    ("ST9_NO_STEP", sys::NO_STEP),
+    ("ST9_BYTE", sys::BYTE),
+    ("ST9_WRITTEN", sys::WRITTEN),
+    ("ST9_TRIGGERED", sys::TRIGGERED),
+    ("ST9_NOTHING", sys::NOTHING),
+    ("ST9_TOP_LEVEL", sys::TOP_LEVEL),
+    ("ST9_INTERRUPT", sys::INTERRUPT),
+    ("ST9_TRANSFERRED", sys::TRANSFERRED),
+    ("ST9_RETURNED", sys::RETURNED),
+    ("ST9_RESET", sys::RESET),
+    ("ST9_REFUSED", sys::REFUSED),
+    ("ST9_REFUSED_CALL", sys::REFUSED_CALL),
+    ("ST9_REFUSED_STEP", sys::REFUSED_STEP),
+    ("ST9_ENDED", sys::ENDED),
+    ("ST9_ACKNOWLEDGED", sys::ACKNOWLEDGED),
+    ("ST9_NESTED", sys::NESTED),
+    ("ST9_DMA_ENABLED", sys::DMA_ENABLED),
+    ("ST9_TOP_LEVEL_ENABLED", sys::TOP_LEVEL_ENABLED),
+    ("ST9_TOP_LEVEL_IN_SERVICE", sys::TOP_LEVEL_IN_SERVICE),
+    ("ST9_NOT_PENDING", sys::NOT_PENDING),
+    ("ST9_MASKED", sys::MASKED),
+    ("ST9_LEVEL_NOT_ABOVE", sys::LEVEL_NOT_ABOVE),
+    ("ST9_OTHER_STEP", sys::OTHER_STEP),
+    ("ST9_INTERRUPTS_DISABLED", sys::INTERRUPTS_DISABLED),
+    ("ST9_WITHIN", sys::WITHIN),
+];
+
+/// Document 01's table of registers. Fields in one number: each is moved up by four bits from the one after it.
+const REGISTERS: [(&str, u64); 13] = [
+    ("ST9_CICR", 230),
+    ("ST9_PPR", 234),
+    ("ST9_MODER", 235),
+    ("ST9_EITR", 242),
+    ("ST9_EIPR", 243),
+    ("ST9_EIMR", 244),
+    ("ST9_EIPLR", 245),
+    ("ST9_EIVR", 246),
+    ("ST9_NICR", 247),
+    (
+        "GCEN, TLIP, TLI, IEN, IAM, CPL",
+        (0x80 << 20) + (0x40 << 16) + (0x20 << 12) + (0x10 << 8) + (0x08 << 4) + 0x07,
+    ),
+    (
+        "vector, TLTEV, TLIS, IAOS, EWEN",
+        (0xF0 << 16) + (0x08 << 12) + (0x04 << 8) + (0x02 << 4) + 0x01,
+    ),
+    ("TLNM, HL", (0x80 << 8) + 0x7F),
+    ("IP, DM, IM, PRL", (0x20 << 12) + (0x10 << 8) + (0x08 << 4) + 0x07),
+];
+
+/// The step words, by their fields.
+const WORDS: [(&str, u64); 13] = [
+    ("read", word(0, 0, 243, 0)),
+    ("read of a number that is too large", word(0, 0, 0xFF_FFFF, 0)),
+    ("write", word(1, 0, 244, 255)),
+    ("write of no byte", word(0xFFFF, 0, 0, 0)),
+    ("pin edge", word(2, 0, 2, 1)),
+    ("pin edge of a direction that is too large", word(2, 0, 2, 255)),
+    ("watchdog", word(2, 1, 0, 0)),
+    ("nmi edge", word(2, 2, 0, 1)),
+    ("request", word(2, 3, 11, 0)),
+    ("request of a number that is too large", word(2, 3, 0xFF_FFFF, 0)),
+    ("arbitrate", word(3, 0, 0, 0)),
+    ("return", word(4, 0, 0, 0)),
+    ("reset", word(5, 0, 0, 0)),
+];
+
+/// Kind, refusal, steps and values by the table of the header, worked out from document 01.
+const CALLS: &str = "\
+bound: 24 0 0 1 0 2
+wait: 14 0 0 2 0 0
+step: 6 0 0 0 0 64
+run: 6 0 2 8 2 52
+run of no steps and no list: 0 0 0 0 0 0
+bytes that are no whole record: 10 2 0 0 0 0
+an image that is too short: 10 1 0 0 0 0
+view of page 9 384
+view of page 64 is null 1
+its number 3
+IDCR after 10
+";
+
 #[test]
 fn numbers_words_and_calls() {
-    let kinds = [
-        ("NO_STEP", sys::NO_STEP),
-        ("BYTE", sys::BYTE),
-        ("WRITTEN", sys::WRITTEN),
-        ("TRIGGERED", sys::TRIGGERED),
-        ("NOTHING", sys::NOTHING),
-        ("TOP_LEVEL", sys::TOP_LEVEL),
-        ("INTERRUPT", sys::INTERRUPT),
-        ("TRANSFERRED", sys::TRANSFERRED),
-        ("RETURNED", sys::RETURNED),
-        ("RESET", sys::RESET),
-        ("REFUSED", sys::REFUSED),
-        ("REFUSED_CALL", sys::REFUSED_CALL),
-        ("REFUSED_STEP", sys::REFUSED_STEP),
-        ("ENDED", sys::ENDED),
-        ("ACKNOWLEDGED", sys::ACKNOWLEDGED),
-        ("NESTED", sys::NESTED),
-        ("DMA_ENABLED", sys::DMA_ENABLED),
-        ("TOP_LEVEL_ENABLED", sys::TOP_LEVEL_ENABLED),
-        ("TOP_LEVEL_IN_SERVICE", sys::TOP_LEVEL_IN_SERVICE),
-        ("NOT_PENDING", sys::NOT_PENDING),
-        ("MASKED", sys::MASKED),
-        ("LEVEL_NOT_ABOVE", sys::LEVEL_NOT_ABOVE),
-        ("OTHER_STEP", sys::OTHER_STEP),
-        ("INTERRUPTS_DISABLED", sys::INTERRUPTS_DISABLED),
-        ("WITHIN", sys::WITHIN),
-    ];
-    let words = [
-        ("read", word(0, 0, 243, 0)),
-        ("read of a number that is too large", word(0, 0, 0xFF_FFFF, 0)),
-        ("write", word(1, 0, 244, 255)),
-        ("write of no byte", word(0xFFFF, 0, 0, 0)),
-        ("pin edge", word(2, 0, 2, 1)),
-        ("pin edge of a direction that is too large", word(2, 0, 2, 255)),
-        ("watchdog", word(2, 1, 0, 0)),
-        ("nmi edge", word(2, 2, 0, 1)),
-        ("request", word(2, 3, 11, 0)),
-        ("request of a number that is too large", word(2, 3, 0xFF_FFFF, 0)),
-        ("arbitrate", word(3, 0, 0, 0)),
-        ("return", word(4, 0, 0, 0)),
-        ("reset", word(5, 0, 0, 0)),
-    ];
-    let mut expected = String::new();
-    for (name, number) in kinds {
-        expected += &format!("ST9_{name} {number}\n");
-    }
-    for (name, word) in words {
-        expected += &format!("{name} {word}\n");
-    }
-    // Kind, refusal, steps and values by the table of the header, worked out from document 01.
-    expected += "bound: 24 0 0 1 0 2\n\
-                 wait: 14 0 0 2 0 0\n\
-                 step: 6 0 0 0 0 64\n\
-                 run: 6 0 2 8 2 52\n\
-                 run of no steps and no list: 0 0 0 0 0 0\n\
-                 bytes that are no whole record: 10 2 0 0 0 0\n\
-                 an image that is too short: 10 1 0 0 0 0\n\
-                 view of page 9 384\n\
-                 view of page 64 is null 1\n\
-                 its number 3\n\
-                 IDCR after 10\n";
+    let numbers = KINDS.iter().chain(&REGISTERS).chain(&WORDS);
+    let mut expected: String = numbers.map(|(name, number)| format!("{name} {number}\n")).collect();
+    expected += CALLS;
     let source = Path::new(env!("CARGO_MANIFEST_DIR")).join("tests/header.c");
     assert_eq!(printed_by(&source, "header"), expected);
 }

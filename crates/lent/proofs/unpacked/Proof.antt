@@ -5,7 +5,7 @@ use native.Mathlib.Omega.{arith}
 use lib.ListN.{length, getD}
 use borrow.Author.Needs.{needs}
 use Rattle.rules.specs.declared.Channels.{Channels}
-use Rattle.rules.specs.Channels.{noChannel, listIn}
+use Rattle.rules.specs.Channels.{noChannel, recordLength, listIn}
 use Rattle.rules.proofs.PackedLaws.{list-in-length, list-in-at}
 use Rattle.lent.specs.Copies.{capped, blankOf, copiedUpTo}
 use Rattle.lent.proofs.CopyLaws.{capped-le, upto-count, upto-blank, upto-next, upto-all, blank-rest}
@@ -13,7 +13,7 @@ use Rattle.lent.proofs.unpacked.Statement.{statement}
 use Rattle.lent.proofs.unpacked.Tie as tie
 
 abbrev Inv-loop : tie.InvT-loop
-Inv-loop bytes all₀ n i₀ all i = (i ≤ n) × (n ≡ capped (length (listIn bytes))) × (length bytes % 7 ≡ 0) × (all ≡ copiedUpTo (listIn bytes) i)
+Inv-loop bytes all₀ n i₀ all i = (i ≤ n) × (n ≡ capped (length (listIn bytes))) × (length bytes % recordLength ≡ 0) × (all ≡ copiedUpTo (listIn bytes) i)
 
 abbrev μ-loop : tie.MeasureT-loop
 μ-loop bytes all₀ n i₀ all i = n - i

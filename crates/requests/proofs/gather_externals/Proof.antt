@@ -5,9 +5,11 @@ use Prim.Native.Nat.{_-_, _≤_}
 use native.Mathlib.Omega.{arith}
 use borrow.Author.Needs.{needs}
 use lib.ListN.{length, length-set}
+use denote.Ref.{now}
 use Rattle.rules.specs.declared.Channel.{Channel}
+use Rattle.rules.specs.Requests.{requestOf}
 use Rattle.requests.specs.Ranks.{rankOf, positionLimit, RanksBelow}
-use Rattle.requests.proofs.RankLaws.{ranks-none, ranks-more}
+use Rattle.requests.proofs.RankLaws.{ranks-none, ranks-more, ranks-skip}
 use Rattle.requests.proofs.gather_externals.Statement.{statement}
 use Rattle.requests.proofs.gather_externals.Tie as tie
 
@@ -16,6 +18,11 @@ Inv-loop image ranks₀ least₀ k₀ ranks least k = (k ≤ 8) × (length ranks
 
 abbrev μ-loop : tie.MeasureT-loop
 μ-loop image ranks₀ least₀ k₀ ranks least k = 8 - k
+
+-- the rank of channel k is that of its request
+asks : (c : tie.After-rank-of Inv-loop μ-loop) (cs : List Channel)
+    → c .rank-of .result ≡ rankOf (now (c .before .before .before .before .before .args .image)) (requestOf (now (c .before .before .before .before .before .args .image)) cs (c .before .before .before .loop .k))
+asks c cs = c .rank-of .ensures ∙ ap (rankOf _) (c .before .external-request .ensures cs)
 
 loop-holds : tie.Need-loop-holds Inv-loop μ-loop
 loop-holds c = (omega arith, refl, λ cs. ranks-none _ cs)
@@ -29,12 +36,6 @@ external-request-requires c κs = search needs
 rank-of-requires : tie.Need-rank-of-requires Inv-loop μ-loop
 rank-of-requires c κs = search needs
 
-array-write-ranks : tie.Need-array-write-ranks Inv-loop μ-loop
-array-write-ranks c = search needs
-
-lower-requires : tie.Need-lower-requires Inv-loop μ-loop
-lower-requires c κs = search needs
-
 add-k : tie.Need-add-k Inv-loop μ-loop
 add-k c = search needs
 
@@ -44,13 +45,30 @@ loop-less c = search needs
 loop-again : tie.Need-loop-again Inv-loop μ-loop
 loop-again c =
     let d = c .before .before .before .before in
+    let i = d .loop .inv in
+    (omega arith, i .1, λ cs. ranks-skip _ cs (d .loop .ranks) (d .loop .k) _ (d .loop .least) (asks (c .before) cs) (i .2 cs) (omega arith) (c .if1 .taken))
+
+array-write-ranks : tie.Need-array-write-ranks Inv-loop μ-loop
+array-write-ranks c = search needs
+
+lower-requires : tie.Need-lower-requires Inv-loop μ-loop
+lower-requires c κs = search needs
+
+add-k-2 : tie.Need-add-k-2 Inv-loop μ-loop
+add-k-2 c = search needs
+
+loop-less-2 : tie.Need-loop-less-2 Inv-loop μ-loop
+loop-less-2 c = search needs
+
+loop-again-2 : tie.Need-loop-again-2 Inv-loop μ-loop
+loop-again-2 c =
+    let d = c .before .before .before .before .before in
     let i = d .loop .inv in (
       omega arith,
       simp length-set (i .1),
       λ cs.
-          ranks-more _ cs (d .loop .ranks) (d .loop .k) (c .before .rank-of .result) (d .loop .least)
-          (c .before .rank-of .ensures ∙ ap (rankOf _) (c .before .before .external-request .ensures cs)) (i .2 cs) (c .lower .result)
-          (omega (arith, i .1)) (omega (arith, c .lower .ensures)) (omega (arith, c .lower .ensures)),
+          ranks-more _ cs (d .loop .ranks) (d .loop .k) _ (d .loop .least) (asks (c .before .before) cs) (i .2 cs) (c .lower .result) (omega (arith, i .1))
+          (omega (arith, c .lower .ensures)) (omega (arith, c .lower .ensures)),
     )
 
 returns : tie.Need-returns Inv-loop μ-loop
@@ -66,9 +84,12 @@ gather-externals-spec =
     cast-external-request
     external-request-requires
     rank-of-requires
-    array-write-ranks
-    lower-requires
     add-k
     loop-less
     loop-again
+    array-write-ranks
+    lower-requires
+    add-k-2
+    loop-less-2
+    loop-again-2
     returns)
