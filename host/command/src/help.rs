@@ -19,7 +19,8 @@ st9: answers from the proved model of the ST92F150's interrupt and DMA registers
 FILE, and IMAGE of show, may be - for standard input. Steps are counted from 0, as document 01 counts them.
 `st9 help scenario` has the statements of a scenario, `st9 help json` the objects that --json prints.
 
-Exit codes: 0 done; 1 refused, with document 01's number; 2 bad usage or file.
+Exit codes: 0 done, also where a wait ends without an acknowledgement; 1 refused, with document 01's number;
+2 bad usage or file.
 ";
 
 const SCENARIO: &str = "\
@@ -43,7 +44,7 @@ then, before the first step, stored bytes and the channel list:
 then the steps:
 
   read EIPR                  a register by name or number; R240 to R255 are those of the page that PPR selects
-  write EIPR 00h             answers the bits of EIPR that it erased; an IP or TLIP that it erased is among the changes alone
+  write EIPR 00h             answers the bits of EIPR that it erased; of IP and TLIP document 01 has no answer
   edge INTB0 falling         a pin by the name of its source or by number; falling, rising or a number
   watchdog                   the watchdog's end of count
   nmi rising

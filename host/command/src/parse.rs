@@ -9,11 +9,11 @@ use st9::{Channel, Edge, Step};
 type Problem = String;
 
 const STATEMENTS: &str = "image, set, channel, read, write, edge, watchdog, nmi, request, arbitrate, return, reset or step";
-const REGISTER: &str = "a register as EIPR, R243 or 243";
+const REGISTER: &str = "a register as EIPR, R243 or 243, without a page: PPR selects it";
 const BYTE: &str = "a byte as 97h, 0x97 or 151, at most FFh";
 const NUMBER: &str = "a number as 97h, 0x97 or 151";
 const PIN: &str = "a pin as INTB0 or 2";
-const DIRECTION: &str = "falling or rising";
+const DIRECTION: &str = "falling, rising or a number";
 const PLACE: &str = "R0 to R239, a name as EIPR, R240.p9 or MARK";
 const CHANNEL: &str = "page=, idcr=, ivr=, dcpr=, dapr=, data=, and in or out";
 

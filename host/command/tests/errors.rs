@@ -41,14 +41,15 @@ read => the line ends too early: expected REGISTER
 read FOO => 'FOO': expected REGISTER
 read R4294967296 => 'R4294967296': expected REGISTER
 read EIPR.p0 => 'EIPR.p0': expected REGISTER
+write R240.p9 0 => 'R240.p9': expected REGISTER
 read EIPR 1 => '1': expected the end of the line
 write EIPR => the line ends too early: expected BYTE
 write EIPR 256 => '256': expected BYTE
 edge => the line ends too early: expected a pin as INTB0 or 2
 edge INTE0 falling => 'INTE0': expected a pin as INTB0 or 2
-edge INTB0 => the line ends too early: expected falling or rising
-edge INTB0 up => 'up': expected falling or rising
-nmi => the line ends too early: expected falling or rising
+edge INTB0 => the line ends too early: expected DIRECTION
+edge INTB0 up => 'up': expected DIRECTION
+nmi => the line ends too early: expected DIRECTION
 request => the line ends too early: expected a record as 0 or CH0
 request CH => 'CH': expected a record as 0 or CH0
 watchdog 1 => '1': expected the end of the line
@@ -61,12 +62,13 @@ read \u{E9} => '\\xc3\\xa9': expected REGISTER
 arbitrate\rreturn => a carriage return inside a line: expected lines ended by LF or CRLF";
 
 /// What stands for the words in capitals.
-const EXPECTED: [(&str, &str); 5] = [
+const EXPECTED: [(&str, &str); 6] = [
     ("STATEMENTS", STATEMENTS),
     ("PLACE", "R0 to R239, a name as EIPR, R240.p9 or MARK"),
     ("BYTE", "a byte as 97h, 0x97 or 151, at most FFh"),
     ("CHANNEL", "page=, idcr=, ivr=, dcpr=, dapr=, data=, and in or out"),
-    ("REGISTER", "a register as EIPR, R243 or 243"),
+    ("REGISTER", "a register as EIPR, R243 or 243, without a page: PPR selects it"),
+    ("DIRECTION", "falling, rising or a number"),
 ];
 
 #[test]
@@ -91,6 +93,13 @@ fn bad_order() {
         ("# x\nset cicr 97h\n", format!("-:2: 'set CICR 97h' before the image: {first}")),
         ("arbitrate\nimage zero\n", format!("-:1: 'arbitrate' before the image: {first}")),
         ("image zero\nreturn\nset R1 1\n", format!("-:3: 'set R1 01h' after a step: {late}")),
+        (
+            "image zero\nreturn\nchannel page=9 idcr=240 ivr=241 dcpr=242 dapr=243 data=244 in\n",
+            format!(
+                "-:3: 'channel page=9 idcr=240 ivr=241 dcpr=242 dapr=243 data=244 in' \
+                 after a step: {late}"
+            ),
+        ),
         ("image\n", format!("-:1: nothing: expected {NAME}")),
         ("image a b\n", format!("-:1: 'a b': expected {NAME}")),
         ("image \"a\n", format!("-:1: '\\\"a': expected {NAME}")),

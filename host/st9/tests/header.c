@@ -50,6 +50,41 @@ static void kinds(void)
     LINE(ST9_WITHIN);
 }
 
+static void refusals_and_effects(void)
+{
+    LINE(ST9_ACCEPTED);
+    LINE(ST9_BAD_LENGTH);
+    LINE(ST9_BAD_LIST);
+    LINE(ST9_BAD_REGISTER);
+    LINE(ST9_BAD_NUMBER);
+    LINE(ST9_MEMORY_TRANSFER);
+    LINE(ST9_BAD_POINTER);
+    LINE(ST9_UNKNOWN_KIND);
+    LINE(ST9_NOT_SELECTED);
+    LINE(ST9_RAISED);
+    LINE(ST9_MERGED);
+}
+
+static void sizes_sources_directions(void)
+{
+    LINE(ST9_IMAGE_LENGTH);
+    LINE(ST9_MARK);
+    LINE(ST9_MOST_CHANNELS);
+    LINE(ST9_INTA0);
+    LINE(ST9_INTA1);
+    LINE(ST9_INTB0);
+    LINE(ST9_INTB1);
+    LINE(ST9_INTC0);
+    LINE(ST9_INTC1);
+    LINE(ST9_INTD0);
+    LINE(ST9_INTD1);
+    LINE(ST9_FIRST_CHANNEL);
+    LINE(ST9_FALLING);
+    LINE(ST9_RISING);
+    LINE(ST9_TO_REGISTER_FILE);
+    LINE(ST9_TO_PERIPHERAL);
+}
+
 static void registers_and_bits(void)
 {
     LINE(ST9_CICR);
@@ -121,6 +156,8 @@ static void calls(void)
 int main(void)
 {
     kinds();
+    refusals_and_effects();
+    sizes_sources_directions();
     registers_and_bits();
     words();
     calls();

@@ -3,7 +3,7 @@
 use std::path::{Path, PathBuf};
 use std::process::Command;
 
-use st9::sys;
+use st9::{sys, Direction, Edge, Refusal, Source};
 
 fn root() -> PathBuf {
     Path::new(env!("CARGO_MANIFEST_DIR")).join("../..")
@@ -60,6 +60,39 @@ const KINDS: [(&str, u64); 25] = [
     ("ST9_OTHER_STEP", sys::OTHER_STEP),
     ("ST9_INTERRUPTS_DISABLED", sys::INTERRUPTS_DISABLED),
     ("ST9_WITHIN", sys::WITHIN),
+];
+
+const REFUSALS_AND_EFFECTS: [(&str, u64); 11] = [
+    ("ST9_ACCEPTED", 0),
+    ("ST9_BAD_LENGTH", Refusal::ImageLength as u64),
+    ("ST9_BAD_LIST", Refusal::ChannelList as u64),
+    ("ST9_BAD_REGISTER", Refusal::Register as u64),
+    ("ST9_BAD_NUMBER", Refusal::Number as u64),
+    ("ST9_MEMORY_TRANSFER", Refusal::MemoryTransfer as u64),
+    ("ST9_BAD_POINTER", Refusal::Pointer as u64),
+    ("ST9_UNKNOWN_KIND", Refusal::UnknownKind as u64),
+    ("ST9_NOT_SELECTED", sys::NOT_SELECTED),
+    ("ST9_RAISED", sys::RAISED),
+    ("ST9_MERGED", sys::MERGED),
+];
+
+const SIZES_SOURCES_DIRECTIONS: [(&str, u64); 16] = [
+    ("ST9_IMAGE_LENGTH", st9::IMAGE_LENGTH as u64),
+    ("ST9_MARK", st9::MARK as u64),
+    ("ST9_MOST_CHANNELS", st9::MOST_CHANNELS as u64),
+    ("ST9_INTA0", Source::INTA0.0 as u64),
+    ("ST9_INTA1", Source::INTA1.0 as u64),
+    ("ST9_INTB0", Source::INTB0.0 as u64),
+    ("ST9_INTB1", Source::INTB1.0 as u64),
+    ("ST9_INTC0", Source::INTC0.0 as u64),
+    ("ST9_INTC1", Source::INTC1.0 as u64),
+    ("ST9_INTD0", Source::INTD0.0 as u64),
+    ("ST9_INTD1", Source::INTD1.0 as u64),
+    ("ST9_FIRST_CHANNEL", Source::channel(0).0 as u64),
+    ("ST9_FALLING", Edge::Falling.number() as u64),
+    ("ST9_RISING", Edge::Rising.number() as u64),
+    ("ST9_TO_REGISTER_FILE", Direction::ToRegisterFile as u64),
+    ("ST9_TO_PERIPHERAL", Direction::ToPeripheral as u64),
 ];
 
 /// Document 01's table of registers. Fields in one number: each is moved up by four bits from the one after it.
@@ -119,7 +152,8 @@ IDCR after 10
 
 #[test]
 fn numbers_words_and_calls() {
-    let numbers = KINDS.iter().chain(&REGISTERS).chain(&WORDS);
+    let numbers = KINDS.iter().chain(&REFUSALS_AND_EFFECTS).chain(&SIZES_SOURCES_DIRECTIONS);
+    let numbers = numbers.chain(&REGISTERS).chain(&WORDS);
     let mut expected: String = numbers.map(|(name, number)| format!("{name} {number}\n")).collect();
     expected += CALLS;
     let source = Path::new(env!("CARGO_MANIFEST_DIR")).join("tests/header.c");
