@@ -20,11 +20,7 @@ const TIME: Duration = Duration::from_secs(4);
 const FEWEST_ROUNDS: usize = 5;
 
 fn main() {
-    let traces = [
-        traces::mixed(STEPS),
-        traces::idle(STEPS),
-        traces::last_record(STEPS),
-    ];
+    let traces = [traces::mixed(STEPS), traces::idle(STEPS), traces::last_record(STEPS)];
     println!("Steps a second of one call over a whole trace, twelve records; the best round of each, in turns.");
     for trace in &traces {
         check(trace);
@@ -67,11 +63,7 @@ struct Best {
 
 /// Times both in turns.
 fn measure(trace: &Trace) -> Best {
-    let mut best = Best {
-        proved: Duration::MAX,
-        plain: Duration::MAX,
-        rounds: 0,
-    };
+    let mut best = Best { proved: Duration::MAX, plain: Duration::MAX, rounds: 0 };
     let start = Instant::now();
     while best.rounds < FEWEST_ROUNDS || start.elapsed() < TIME {
         let proved = timed(trace, |image| {

@@ -59,14 +59,7 @@ fn shift_image(channels: &[Channel]) -> Vec<u8> {
 /// A trace for the twelve records.
 fn trace(name: &'static str, note: String, image: Vec<u8>, words: Vec<u64>) -> Trace {
     let channels = channels();
-    Trace {
-        name,
-        note,
-        image,
-        list: generate::bytes(&channels),
-        channels,
-        words,
-    }
+    Trace { name, note, image, list: generate::bytes(&channels), channels, words }
 }
 
 /// (b) Arbitrations where nothing requests.
@@ -100,14 +93,7 @@ pub fn mixed(steps: usize) -> Trace {
 
 /// How many steps of each kind there are, in words.
 fn shares(words: &[u64]) -> String {
-    let names = [
-        "reads",
-        "writes",
-        "triggers",
-        "arbitrations",
-        "returns",
-        "resets",
-    ];
+    let names = ["reads", "writes", "triggers", "arbitrations", "returns", "resets"];
     let share = |(kind, name): (u64, &str)| {
         let count = words.iter().filter(|word| **word >> 48 == kind).count();
         format!("{name} {:.2} %", 100.0 * count as f64 / words.len() as f64)
@@ -128,12 +114,7 @@ impl Shift {
     fn new() -> Shift {
         let channels = channels();
         let image = shift_image(&channels);
-        let mut shift = Shift {
-            random: Random::new(7),
-            channels,
-            image,
-            words: Vec::new(),
-        };
+        let mut shift = Shift { random: Random::new(7), channels, image, words: Vec::new() };
         (0..4).for_each(|record| shift.set_up_block(record));
         shift
     }
@@ -182,11 +163,7 @@ impl Shift {
 
     /// A handler: it looks at a register or two, keeps a byte, sets an ended block up again, and returns.
     fn handle(&mut self, answer: Answer) {
-        if let Answer::Interrupt {
-            source: source @ 8..=11,
-            ..
-        } = answer
-        {
+        if let Answer::Interrupt { source: source @ 8..=11, .. } = answer {
             self.set_up_block(usize::from(source) - 8);
         } else if self.random.chance(1, 2) {
             let register = self.random.pick(&[20, 100, CICR, PPR]);

@@ -5,30 +5,36 @@ use crate::number::hex;
 use crate::{Object, Operation, StepLine};
 use st9::{register, Answer, Bound, Channel, Effect, Refusal, Source, Step};
 
+/// The pending bit of CICR, and that of a record's IDCR.
+const TLIP: u8 = 0x40;
+const IP: u8 = 0x20;
+
 /// What a step's answer is told from, beside the answer: the registers that decide where it goes and what is eligible,
 /// as they were before the step.
 #[derive(Clone, Copy, Debug, PartialEq, Eq)]
 pub struct Before {
     cicr: u8,
-    ppr: u8,
     mark: u8,
+    /// What a read or a write goes to, and the byte there.
+    addressed: Option<(Place, u8)>,
 }
 
 impl Before {
-    /// Of an image; bytes that it does not have count as 0.
-    pub fn of(image: &[u8]) -> Before {
+    /// Of an image and a step; bytes that the image does not have count as 0.
+    pub fn of(image: &[u8], step: Step) -> Before {
         let byte = |index: usize| image.get(index).copied().unwrap_or_default();
+        let page = byte(register::PPR.into()) >> 2;
+        let place = match Step::of_word(step.word()) {
+            Step::Read { register } | Step::Write { register, .. } => {
+                u8::try_from(register).ok().map(|number| Place::of(page, number))
+            }
+            _ => None,
+        };
         Before {
             cicr: byte(register::CICR.into()),
-            ppr: byte(register::PPR.into()),
             mark: byte(st9::MARK),
+            addressed: place.map(|place| (place, byte(place.0))),
         }
-    }
-
-    /// The byte that a read or a write of a register goes to; none where the number is over 255.
-    fn place(self, number: u32) -> Option<Place> {
-        let number = u8::try_from(number).ok()?;
-        Some(Place::of(self.ppr >> 2, number))
     }
 }
 
@@ -104,13 +110,28 @@ impl Report<'_> {
     }
 
     fn written_words(&self, erased: u8) -> String {
-        let eipr = Role::Named(register::EIPR);
-        if erased != 0 {
-            return format!("erased {}: {}", hex(erased), eipr.set_bits(erased));
-        }
+        let pending = self.erased_names(erased).join(", ");
         match self.place().map(|place| place.role(self.channels)) {
-            Some(role) if role == eipr => "written, no pending bit erased".to_string(),
+            _ if erased != 0 => format!("erased {}: {pending}", hex(erased)),
+            _ if !pending.is_empty() => format!("erased {pending}"),
+            Some(Role::Named(register::EIPR)) => "written, no pending bit erased".to_string(),
             _ => "written".to_string(),
+        }
+    }
+
+    /// The pending bits that a write took from 1 to 0: EIPR's by the model's answer; TLIP and a record's IP, which are
+    /// not in document 01's answer, by the byte before and the value.
+    fn erased_names(&self, erased: u8) -> Vec<String> {
+        let (Some((place, byte)), Step::Write { value, .. }) =
+            (self.before.addressed, self.meaning())
+        else {
+            return Vec::new();
+        };
+        let fallen = byte & !value;
+        match place.role(self.channels) {
+            Role::Named(register::CICR) if fallen & TLIP != 0 => vec!["TLIP".to_string()],
+            Role::Idcr(record) if fallen & IP != 0 => vec![format!("IP of channel {record}")],
+            _ => external_names(erased).map(str::to_string).collect(),
         }
     }
 
@@ -155,10 +176,7 @@ impl Report<'_> {
 
     /// The byte that a read or a write goes to.
     fn place(&self) -> Option<Place> {
-        match self.meaning() {
-            Step::Read { register } | Step::Write { register, .. } => self.before.place(register),
-            _ => None,
-        }
+        self.before.addressed.map(|(place, _)| place)
     }
 
     fn meaning(&self) -> Step {
@@ -192,7 +210,7 @@ impl Report<'_> {
             Answer::Written { erased } => object
                 .text("answer", "written")
                 .number("erased", erased.into())
-                .texts("sources", external_names(erased)),
+                .texts("pending", self.erased_names(erased).iter().map(String::as_str)),
             Answer::Triggered { maskable, tlip } => object
                 .text("answer", "triggered")
                 .text("maskable", effect_name(maskable))
@@ -263,7 +281,7 @@ pub fn bound_words(bound: Bound, steps: &[StepLine]) -> String {
             bound,
         } => format!(
             "by arbitration {bound} at the latest \
-             (H {outranking}: outranking sources pending at the start, E {triggers}: their triggers in the list)"
+             (H {outranking}: outranking sources pending at the start, E {triggers}: triggers of outranking sources in the list)"
         ),
         Bound::Fails(premise) => {
             let found = premise.index().and_then(|index| Some((index, steps.get(index)?)));

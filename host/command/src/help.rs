@@ -44,7 +44,7 @@ then, before the first step, stored bytes and the channel list:
 then the steps:
 
   read EIPR                  a register by name or number; R240 to R255 are those of the page that PPR selects
-  write EIPR 00h             answers the bits of EIPR that it erased; of IP and TLIP document 01 has no answer
+  write EIPR 00h             says which pending bits it erased: EIPR's, TLIP or a record's IP
   edge INTB0 falling         a pin by the name of its source or by number; falling, rising or a number
   watchdog                   the watchdog's end of count
   nmi rising
@@ -64,7 +64,8 @@ With --json every line is one object. Its member \"type\" says which:
 
   step      of run, one for each step done or refused: \"step\" (index, from 0), \"line\", \"statement\", \"answer\", \"words\";
             for reads and writes the \"register\" that they go to and its \"page\" (null below R240)
-            answer \"byte\": \"byte\"              answer \"written\": \"erased\" (EIPR bits), \"sources\" (their names)
+            answer \"byte\": \"byte\"
+            answer \"written\": \"erased\" (EIPR bits), \"pending\" (the names of those, TLIP or the IP of a channel, erased)
             answer \"triggered\": \"maskable\" and \"tlip\", each \"not selected\", \"raised\" or \"merged\"
             answer \"none\", \"returned\", \"reset\"  answer \"top level\": \"vector\"
             answer \"interrupt\": \"source\", \"name\", \"level\", \"vector\"

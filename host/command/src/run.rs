@@ -57,7 +57,7 @@ fn steps(
     let mut progress = Progress::beside_lines(count, "steps");
     for (index, step) in scenario.steps.iter().enumerate() {
         progress.at(index);
-        let before = Before::of(image);
+        let before = Before::of(image, step.operation.step);
         let answer = st9::step(image, &scenario.channels, step.operation.step);
         if output.is_open() {
             let report =

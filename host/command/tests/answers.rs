@@ -98,6 +98,37 @@ done: 1 step
 }
 
 #[test]
+fn every_pending_bit_that_a_write_erases() {
+    let scenario = "\
+image zero
+set CICR 50h
+set EIPR 03h
+set R240.p9 3Ah
+channel page=9 idcr=240 ivr=241 dcpr=242 dapr=243 data=244 in
+write EIPR 02h
+write EIPR 03h
+write CICR 40h
+write CICR 17h
+write PPR 24h
+write R240 38h
+write R240 18h
+write R240 18h
+";
+    let expected = "\
+0  write EIPR 02h        erased 01h: INTA0
+1  write EIPR 03h        written, no pending bit erased
+2  write CICR 40h        written
+3  write CICR 17h        erased TLIP
+4  write PPR 24h         written
+5  write R240 38h        written (IDCR of channel 0, R240 page 9: PPR selects it)
+6  write R240 18h        erased IP of channel 0 (IDCR of channel 0, R240 page 9: PPR selects it)
+7  write R240 18h        written (IDCR of channel 0, R240 page 9: PPR selects it)
+";
+    let out = run(scenario).with_code(0).out;
+    assert!(out.starts_with(expected), "{out}");
+}
+
+#[test]
 fn no_steps() {
     let expected = "no register changed\ndone: 0 steps\n";
     assert_eq!(run("image zero\nset R1 1").with_code(0).out, expected);

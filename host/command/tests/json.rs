@@ -33,7 +33,7 @@ fn examples_are_well_formed() {
 #[test]
 fn objects_of_a_run() {
     let scenario = "image zero\nset EIPR 06h\nwrite EIPR 02h\nread R16\nrequest 3\n";
-    let expected = r#"{"type":"step","step":0,"line":3,"statement":"write EIPR 02h","answer":"written","erased":4,"sources":["INTB0"],"register":243,"page":0,"words":"erased 04h: INTB0"}
+    let expected = r#"{"type":"step","step":0,"line":3,"statement":"write EIPR 02h","answer":"written","erased":4,"pending":["INTB0"],"register":243,"page":0,"words":"erased 04h: INTB0"}
 {"type":"step","step":1,"line":4,"statement":"read R16","answer":"byte","byte":0,"register":16,"page":null,"words":"00h"}
 {"type":"step","step":2,"line":5,"statement":"request 3","answer":"refused","refusal":4,"meaning":"pin over 7, direction over 1, record or source number that isn't there","words":"refused with 4: pin over 7, direction over 1, record or source number that isn't there"}
 {"type":"change","name":"EIPR","register":243,"page":0,"before":6,"after":2,"fields":[{"name":"INTB0","before":1,"after":0}]}

@@ -64,7 +64,7 @@ fn premises_of_the_steps() {
 fn within(outranking: u32, triggers: u32) -> String {
     format!(
         "by arbitration {} at the latest (H {outranking}: outranking sources pending at the start, \
-         E {triggers}: their triggers in the list)",
+         E {triggers}: triggers of outranking sources in the list)",
         outranking + triggers + 1
     )
 }

@@ -7,20 +7,22 @@ use st9::{Answer, Bound, Channel, Effect, Premise, Refusal, Source};
 const CHANNEL: Channel =
     Channel { page: 9, idcr: 240, ivr: 241, dcpr: 242, dapr: 243, data: 244, direction: 0 };
 
+type Image = [u8; st9::IMAGE_LENGTH];
+
 /// CICR 97h, PPR selects page 0.
-fn page_0() -> Before {
+fn page_0() -> Image {
     let mut image = [0; st9::IMAGE_LENGTH];
     image[230] = 0x97;
-    Before::of(&image)
+    image
 }
 
 /// CICR 07h, PPR selects page 9 (its absent bits are not 0), the top level in service.
-fn page_9() -> Before {
+fn page_9() -> Image {
     let mut image = [0; st9::IMAGE_LENGTH];
     image[230] = 0x07;
     image[234] = 0x26;
     image[st9::MARK] = 2;
-    Before::of(&image)
+    image
 }
 
 fn step(line: &str) -> StepLine {
@@ -30,8 +32,10 @@ fn step(line: &str) -> StepLine {
     }
 }
 
-fn told(line: &str, before: Before, answer: Result<Answer, Refusal>) -> String {
-    let report = Report { index: 4, step: step(line), before, answer, channels: &[CHANNEL] };
+fn told(line: &str, image: Image, answer: Result<Answer, Refusal>) -> String {
+    let step = step(line);
+    let before = Before::of(&image, step.operation.step);
+    let report = Report { index: 4, step, before, answer, channels: &[CHANNEL] };
     report.words()
 }
 
@@ -74,13 +78,9 @@ fn refused_steps() {
     let selected = format!("{words} (R246 page 9: PPR selects it)");
     assert_eq!(told("read EIVR", page_9(), refused), selected);
     assert_eq!(told("read R256", page_9(), refused), words);
-    let report = Report {
-        index: 4,
-        step: step("read R256"),
-        before: page_0(),
-        answer: refused,
-        channels: &[],
-    };
+    let step = step("read R256");
+    let before = Before::of(&page_0(), step.operation.step);
+    let report = Report { index: 4, step, before, answer: refused, channels: &[] };
     assert_eq!(report.line(3), format!("  4  read R256             {words} (step 4, line 12)"));
 }
 
@@ -129,7 +129,7 @@ fn arbitrations_returns_resets() {
 fn bounds() {
     let within = Bound::Within { outranking: 1, triggers: 2, bound: 4 };
     let words = "by arbitration 4 at the latest \
-                 (H 1: outranking sources pending at the start, E 2: their triggers in the list)";
+                 (H 1: outranking sources pending at the start, E 2: triggers of outranking sources in the list)";
     assert_eq!(bound_words(within, &[]), words);
     let fails = Bound::Fails(Premise::OtherStep { index: 1 });
     let steps = [step("arbitrate"), step("write EIPR 0")];

@@ -5,26 +5,17 @@ use st9::sys;
 
 /// An answer of a kind whose fields are all 0.
 fn of_kind(kind: u64) -> sys::Answer {
-    sys::Answer {
-        kind,
-        ..sys::Answer::default()
-    }
+    sys::Answer { kind, ..sys::Answer::default() }
 }
 
 /// An answer of a kind with its first field.
 fn with_first(kind: u64, first: u64) -> sys::Answer {
-    sys::Answer {
-        first,
-        ..of_kind(kind)
-    }
+    sys::Answer { first, ..of_kind(kind) }
 }
 
 /// An answer of a kind with the index of a step.
 fn with_steps(kind: u64, steps: usize) -> sys::Answer {
-    sys::Answer {
-        steps: steps as u64,
-        ..of_kind(kind)
-    }
+    sys::Answer { steps: steps as u64, ..of_kind(kind) }
 }
 
 /// A refusal before any step.
@@ -34,10 +25,7 @@ pub fn refused_call(refusal: Refusal) -> sys::Answer {
 
 /// A refusal of a kind.
 fn refused(kind: u64, refusal: Refusal) -> sys::Answer {
-    sys::Answer {
-        refusal: refusal.number(),
-        ..of_kind(kind)
-    }
+    sys::Answer { refusal: refusal.number(), ..of_kind(kind) }
 }
 
 /// A refusal at a step of a run or a wait.
@@ -63,28 +51,21 @@ pub fn step(answer: Answer) -> sys::Answer {
     match answer {
         Answer::Byte(byte) => with_first(sys::BYTE, byte.into()),
         Answer::Written { lost } => with_first(sys::WRITTEN, lost.into()),
-        Answer::Triggered { maskable, tlip } => sys::Answer {
-            second: effect(tlip),
-            ..with_first(sys::TRIGGERED, effect(maskable))
-        },
+        Answer::Triggered { maskable, tlip } => {
+            sys::Answer { second: effect(tlip), ..with_first(sys::TRIGGERED, effect(maskable)) }
+        }
         Answer::Nothing => of_kind(sys::NOTHING),
-        Answer::TopLevel { vector } => sys::Answer {
-            third: vector.into(),
-            ..of_kind(sys::TOP_LEVEL)
-        },
-        Answer::Interrupt {
-            source,
-            level,
-            vector,
-        } => sys::Answer {
+        Answer::TopLevel { vector } => {
+            sys::Answer { third: vector.into(), ..of_kind(sys::TOP_LEVEL) }
+        }
+        Answer::Interrupt { source, level, vector } => sys::Answer {
             second: level.into(),
             third: vector.into(),
             ..with_first(sys::INTERRUPT, source.into())
         },
-        Answer::Transferred { source, ended } => sys::Answer {
-            second: ended.into(),
-            ..with_first(sys::TRANSFERRED, source.into())
-        },
+        Answer::Transferred { source, ended } => {
+            sys::Answer { second: ended.into(), ..with_first(sys::TRANSFERRED, source.into()) }
+        }
         Answer::Returned => of_kind(sys::RETURNED),
         Answer::Reset => of_kind(sys::RESET),
         Answer::Refused(refusal) => refused(sys::REFUSED, refusal),
@@ -95,10 +76,7 @@ pub fn step(answer: Answer) -> sys::Answer {
 pub fn run(answer: Ran) -> sys::Answer {
     match answer {
         Ran::NoSteps => of_kind(sys::NO_STEP),
-        Ran::Done { steps, last } => sys::Answer {
-            steps: steps as u64,
-            ..step(last)
-        },
+        Ran::Done { steps, last } => sys::Answer { steps: steps as u64, ..step(last) },
         Ran::RefusedCall(refusal) => refused_call(refusal),
         Ran::RefusedStep { refusal, index } => refused_step(refusal, index, 0),
     }
@@ -110,11 +88,9 @@ pub fn wait(answer: Waited) -> sys::Answer {
         Waited::Ended { arbitrations } => with_first(sys::ENDED, arbitrations as u64),
         Waited::Acknowledged { arbitrations } => with_first(sys::ACKNOWLEDGED, arbitrations as u64),
         Waited::RefusedCall(refusal) => refused_call(refusal),
-        Waited::RefusedStep {
-            refusal,
-            index,
-            arbitrations,
-        } => refused_step(refusal, index, arbitrations),
+        Waited::RefusedStep { refusal, index, arbitrations } => {
+            refused_step(refusal, index, arbitrations)
+        }
     }
 }
 
@@ -131,11 +107,7 @@ pub fn bound(answer: Bounded) -> sys::Answer {
         Bounded::LevelNotAbove => of_kind(sys::LEVEL_NOT_ABOVE),
         Bounded::OtherStep { index } => with_steps(sys::OTHER_STEP, index),
         Bounded::InterruptsDisabled { index } => with_steps(sys::INTERRUPTS_DISABLED, index),
-        Bounded::Within {
-            outranking,
-            triggers,
-            bound,
-        } => sys::Answer {
+        Bounded::Within { outranking, triggers, bound } => sys::Answer {
             second: triggers as u64,
             third: bound as u64,
             ..with_first(sys::WITHIN, outranking as u64)

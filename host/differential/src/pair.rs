@@ -49,10 +49,7 @@ impl Pair {
     pub fn step(&mut self, word: u64) -> sys::Answer {
         let expected = match &self.channels {
             Some(channels) => flat::step(model::step(&mut self.plain_image, channels, word)),
-            None => sys::Answer {
-                kind: sys::REFUSED,
-                ..self.broken_list()
-            },
+            None => sys::Answer { kind: sys::REFUSED, ..self.broken_list() },
         };
         // SAFETY: the lengths are those of the lent parts, which are apart and which nobody else has.
         let given = unsafe {

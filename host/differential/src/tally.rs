@@ -33,14 +33,8 @@ impl Call {
     fn refusals(self) -> Refusals {
         match self {
             Call::Step => &[(sys::REFUSED, &[1, 2, 3, 4, 5, 6, 7])],
-            Call::Run => &[
-                (sys::REFUSED_CALL, &[1, 2]),
-                (sys::REFUSED_STEP, &[3, 4, 5, 6, 7]),
-            ],
-            Call::Wait => &[
-                (sys::REFUSED_CALL, &[1, 2, 4]),
-                (sys::REFUSED_STEP, &[3, 4, 5, 6, 7]),
-            ],
+            Call::Run => &[(sys::REFUSED_CALL, &[1, 2]), (sys::REFUSED_STEP, &[3, 4, 5, 6, 7])],
+            Call::Wait => &[(sys::REFUSED_CALL, &[1, 2, 4]), (sys::REFUSED_STEP, &[3, 4, 5, 6, 7])],
             Call::Bound => &[(sys::REFUSED_CALL, &[1, 2, 4])],
             Call::View => &[(0, &[1, 3])],
         }
@@ -118,11 +112,7 @@ impl Tally {
             for refusal in 0..8 {
                 let met = self.answers[kind as usize][refusal as usize] > 0;
                 let possible = self.call.can_give(kind, refusal);
-                assert_eq!(
-                    met, possible,
-                    "{:?}: kind {kind}, refusal {refusal}",
-                    self.call
-                );
+                assert_eq!(met, possible, "{:?}: kind {kind}, refusal {refusal}", self.call);
             }
         }
     }

@@ -33,11 +33,7 @@ impl Start {
         if matches!(damage, 1 | 2) {
             list = generate::damaged_bytes(random);
         }
-        Start {
-            image,
-            list,
-            channels,
-        }
+        Start { image, list, channels }
     }
 
     /// A good list, and an image in which a source waits as demand 3 says; one time in six one premise is broken.
@@ -50,11 +46,7 @@ impl Start {
             generate::break_premise(random, &mut image, &channels, source);
         }
         let list = generate::bytes(&channels);
-        let start = Start {
-            image,
-            list,
-            channels,
-        };
+        let start = Start { image, list, channels };
         (start, source)
     }
 

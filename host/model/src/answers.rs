@@ -94,11 +94,7 @@ pub enum Waited {
     /// Refused before any step.
     RefusedCall(Refusal),
     /// The step at `index` was refused, those before it were done.
-    RefusedStep {
-        refusal: Refusal,
-        index: usize,
-        arbitrations: usize,
-    },
+    RefusedStep { refusal: Refusal, index: usize, arbitrations: usize },
 }
 
 /// The answer of a bound: the first premise of demand 3 that fails, or the bound.

@@ -34,9 +34,7 @@ pub(crate) fn arbitrate(image: &mut Image, channels: &[Channel]) -> Result<Answe
     if top_level_wins(image) {
         image[CICR] &= !TLIP;
         image[MARK] = 1;
-        return Ok(Answer::TopLevel {
-            vector: TOP_LEVEL_VECTOR,
-        });
+        return Ok(Answer::TopLevel { vector: TOP_LEVEL_VECTOR });
     }
     match winner(image, channels) {
         None => Ok(Answer::Nothing),
@@ -105,11 +103,7 @@ fn record_request(image: &Image, channel: &Channel, source: u8) -> Option<Reques
     } else {
         return None;
     };
-    Some(Request {
-        level,
-        service,
-        source,
-    })
+    Some(Request { level, service, source })
 }
 
 /// Interrupt won: in nested mode CPL is kept in HL and becomes the winner's level; then the pending bit and IEN are cleared.
@@ -129,11 +123,7 @@ fn acknowledge(image: &mut Image, channels: &[Channel], request: Request) -> Ans
         image[channel.idcr_place()] &= !IP;
         image[paged(channel.page, channel.ivr)] & !1
     };
-    Answer::Interrupt {
-        source,
-        level,
-        vector,
-    }
+    Answer::Interrupt { source, level, vector }
 }
 
 /// DMA won: the transfer of the record.
@@ -152,11 +142,7 @@ pub(crate) fn return_from(image: &mut Image) {
     image[CICR] |= IEN;
     if has(image, CICR, IAM) {
         let held = image[NICR] & HL;
-        let level = if held == 0 {
-            7
-        } else {
-            held.trailing_zeros() as u8
-        };
+        let level = if held == 0 { 7 } else { held.trailing_zeros() as u8 };
         image[NICR] &= !(held & held.wrapping_neg());
         image[CICR] = image[CICR] & !CPL | level;
     }

@@ -66,10 +66,7 @@ impl Outranking {
     /// One source outranks another if its level number is smaller or, at equal level, its source number is.
     fn of(image: &Image, channels: &[Channel], ours: u8) -> Outranking {
         let our_level = source(image, channels, ours).level;
-        let mut outranking = Outranking {
-            unmasked: 0,
-            pending: 0,
-        };
+        let mut outranking = Outranking { unmasked: 0, pending: 0 };
         for number in 0..source_count(channels) as u8 {
             let other = source(image, channels, number);
             if other.unmasked && (other.level, number) < (our_level, ours) {

@@ -12,19 +12,11 @@ struct Row {
 }
 
 /// All eight bits, kept at reset.
-const STORED: Row = Row {
-    exists: 0xFF,
-    reset_mask: 0,
-    reset_bits: 0,
-};
+const STORED: Row = Row { exists: 0xFF, reset_mask: 0, reset_bits: 0 };
 
 /// All eight bits, set to a value at reset.
 const fn reset_to(value: u8) -> Row {
-    Row {
-        exists: 0xFF,
-        reset_mask: 0xFF,
-        reset_bits: value,
-    }
+    Row { exists: 0xFF, reset_mask: 0xFF, reset_bits: value }
 }
 
 /// The sixteen system registers, R224 to R239.
@@ -38,16 +30,12 @@ const SYSTEM: [Row; 16] = {
 
 /// The six registers of page 0, R242 to R247.
 const PAGE_ZERO: [Row; 6] = [
-    reset_to(0x00), // EITR
-    reset_to(0x00), // EIPR
-    reset_to(0x00), // EIMR
-    reset_to(0xFF), // EIPLR
-    Row {
-        exists: 0xFF,
-        reset_mask: 0x0F,
-        reset_bits: 0x06,
-    }, // EIVR
-    reset_to(0x00), // NICR
+    reset_to(0x00),                                           // EITR
+    reset_to(0x00),                                           // EIPR
+    reset_to(0x00),                                           // EIMR
+    reset_to(0xFF),                                           // EIPLR
+    Row { exists: 0xFF, reset_mask: 0x0F, reset_bits: 0x06 }, // EIVR
+    reset_to(0x00),                                           // NICR
 ];
 
 /// A modelled register: its byte in the image and the bits that exist.
@@ -62,14 +50,8 @@ fn locate(image: &Image, channels: &[Channel], register: u32) -> Result<Place, R
     let byte = usize::from(number);
     match (number, image[PPR] >> 2) {
         (0..=223, _) => Ok(Place { byte, exists: 0xFF }),
-        (224..=239, _) => Ok(Place {
-            byte,
-            exists: SYSTEM[byte - 224].exists,
-        }),
-        (242..=247, 0) => Ok(Place {
-            byte,
-            exists: PAGE_ZERO[byte - 242].exists,
-        }),
+        (224..=239, _) => Ok(Place { byte, exists: SYSTEM[byte - 224].exists }),
+        (242..=247, 0) => Ok(Place { byte, exists: PAGE_ZERO[byte - 242].exists }),
         (_, page) => locate_in_records(channels, page, number).ok_or(Refusal::BadRegister),
     }
 }
@@ -79,15 +61,8 @@ fn locate_in_records(channels: &[Channel], page: u8, register: u8) -> Option<Pla
     let owner = channels
         .iter()
         .find(|channel| channel.page == page && channel.registers().contains(&register))?;
-    let exists = if register == owner.idcr {
-        IDCR_BITS
-    } else {
-        0xFF
-    };
-    Some(Place {
-        byte: paged(page, register),
-        exists,
-    })
+    let exists = if register == owner.idcr { IDCR_BITS } else { 0xFF };
+    Some(Place { byte: paged(page, register), exists })
 }
 
 /// A read: the stored byte with absent bits as 0.

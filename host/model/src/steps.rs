@@ -25,10 +25,7 @@ impl Step {
         let second = word as u8;
         match word >> 48 {
             0 => Ok(Step::Read { register: first }),
-            1 => Ok(Step::Write {
-                register: first,
-                value: second,
-            }),
+            1 => Ok(Step::Write { register: first, value: second }),
             2 => decode_trigger((word >> 32) as u16, first, second).map(Step::Trigger),
             3 => Ok(Step::Arbitrate),
             4 => Ok(Step::Return),
@@ -41,10 +38,7 @@ impl Step {
 /// The trigger of a word's fields.
 fn decode_trigger(kind: u16, first: u32, second: u8) -> Result<Trigger, Refusal> {
     match kind {
-        0 => Ok(Trigger::PinEdge {
-            pin: first,
-            direction: second,
-        }),
+        0 => Ok(Trigger::PinEdge { pin: first, direction: second }),
         1 => Ok(Trigger::Watchdog),
         2 => Ok(Trigger::NmiEdge { direction: second }),
         3 => Ok(Trigger::Request { record: first }),
@@ -106,10 +100,7 @@ pub fn run(image: &mut [u8], channels: &[Channel], words: &[u64]) -> Ran {
     }
     match last {
         None => Ran::NoSteps,
-        Some(last) => Ran::Done {
-            steps: words.len(),
-            last,
-        },
+        Some(last) => Ran::Done { steps: words.len(), last },
     }
 }
 
@@ -137,13 +128,7 @@ pub fn wait(image: &mut [u8], channels: &[Channel], source: u32, words: &[u64]) 
                 }
             }
             Ok(_) => {}
-            Err(refusal) => {
-                return Waited::RefusedStep {
-                    refusal,
-                    index,
-                    arbitrations,
-                }
-            }
+            Err(refusal) => return Waited::RefusedStep { refusal, index, arbitrations },
         }
     }
     Waited::Ended { arbitrations }

@@ -56,10 +56,7 @@ fn pin_edge(image: &mut Image, pin: u32, direction: u8) -> Result<Effect, Refusa
 fn watchdog(image: &mut Image) -> (Effect, Effect) {
     let to_pending = !has(image, EIVR, IAOS);
     let to_top_level = !has(image, EIVR, TLIS);
-    (
-        raise_if(to_pending, &mut image[EIPR], 1),
-        raise_if(to_top_level, &mut image[CICR], TLIP),
-    )
+    (raise_if(to_pending, &mut image[EIPR], 1), raise_if(to_top_level, &mut image[CICR], TLIP))
 }
 
 /// NMI edge: sets TLIP if TLIS = 1 and the direction matches TLTEV.

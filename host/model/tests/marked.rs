@@ -12,15 +12,8 @@ const EIVR: usize = 246;
 const NICR: usize = 247;
 
 /// C09's record: page 9, R240 to R244, to the register file.
-const RECORD: Channel = Channel {
-    page: 9,
-    idcr: 240,
-    ivr: 241,
-    dcpr: 242,
-    dapr: 243,
-    data: 244,
-    direction: 0,
-};
+const RECORD: Channel =
+    Channel { page: 9, idcr: 240, ivr: 241, dcpr: 242, dapr: 243, data: 244, direction: 0 };
 
 /// A zero image with EIVR 46h and these bytes.
 fn image(bytes: &[(usize, u8)]) -> Vec<u8> {
@@ -49,18 +42,11 @@ fn arbitrate(image: &mut [u8], channels: &[Channel]) -> Answer {
 }
 
 fn interrupt(source: u8, level: u8, vector: u8) -> Answer {
-    Answer::Interrupt {
-        source,
-        level,
-        vector,
-    }
+    Answer::Interrupt { source, level, vector }
 }
 
 fn triggered(maskable: Effect) -> Answer {
-    Answer::Triggered {
-        maskable,
-        tlip: Effect::NotSelected,
-    }
+    Answer::Triggered { maskable, tlip: Effect::NotSelected }
 }
 
 /// The image after C03's arbitration.
@@ -137,10 +123,7 @@ fn c07_level_against_cpl() {
 #[test]
 fn c08_top_level() {
     let mut image = image(&[(CICR, 0xC7), (NICR, 0x80)]);
-    assert_eq!(
-        arbitrate(&mut image, &[]),
-        Answer::TopLevel { vector: 0x04 }
-    );
+    assert_eq!(arbitrate(&mut image, &[]), Answer::TopLevel { vector: 0x04 });
     assert_eq!((image[CICR], image[MARK]), (0x87, 1));
     assert_eq!(arbitrate(&mut image, &[]), Answer::Nothing);
     assert_eq!(step(&mut image, &[], word::return_from()), Answer::Returned);
@@ -151,13 +134,7 @@ fn c08_top_level() {
 fn c09_the_last_byte_of_a_block() {
     let mut image = dma_image(0x3A, 20, 1);
     let answer = arbitrate(&mut image, &[RECORD]);
-    assert_eq!(
-        answer,
-        Answer::Transferred {
-            source: 8,
-            ended: true
-        }
-    );
+    assert_eq!(answer, Answer::Transferred { source: 8, ended: true });
     assert_eq!((image[20], image[16], image[17]), (0x5A, 21, 0));
     assert_eq!(image[paged(9, 240)], 0x2A);
 }
@@ -166,22 +143,13 @@ fn c09_the_last_byte_of_a_block() {
 fn c10_a_counter_of_zero_and_the_end_of_the_file() {
     let mut image = dma_image(0x32, 223, 0);
     let answer = arbitrate(&mut image, &[RECORD]);
-    assert_eq!(
-        answer,
-        Answer::Transferred {
-            source: 8,
-            ended: false
-        }
-    );
+    assert_eq!(answer, Answer::Transferred { source: 8, ended: false });
     assert_eq!((image[223], image[16], image[17]), (0x5A, 224, 255));
     assert_eq!(image[paged(9, 240)], 0x12);
     let request = step(&mut image, &[RECORD], word::request(0));
     assert_eq!(request, triggered(Effect::Raised));
     let before = image.clone();
-    assert_eq!(
-        arbitrate(&mut image, &[RECORD]),
-        Answer::Refused(Refusal::BadPointer)
-    );
+    assert_eq!(arbitrate(&mut image, &[RECORD]), Answer::Refused(Refusal::BadPointer));
     assert_eq!(image, before);
 }
 

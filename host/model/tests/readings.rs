@@ -15,15 +15,7 @@ const RECORD: Channel = record(9);
 
 /// A record with R240 to R244 of a page, to the register file.
 const fn record(page: u8) -> Channel {
-    Channel {
-        page,
-        idcr: 240,
-        ivr: 241,
-        dcpr: 242,
-        dapr: 243,
-        data: 244,
-        direction: 0,
-    }
+    Channel { page, idcr: 240, ivr: 241, dcpr: 242, dapr: 243, data: 244, direction: 0 }
 }
 
 /// A zero image with these bytes.
@@ -74,32 +66,18 @@ fn refused(image: &mut [u8], channels: &[Channel], word: u64, refusal: Refusal) 
 #[test]
 fn a_lists() {
     let bad = |channel: Channel| {
-        refused(
-            &mut image(&[]),
-            &[channel],
-            word::return_from(),
-            Refusal::BadList,
-        )
+        refused(&mut image(&[]), &[channel], word::return_from(), Refusal::BadList)
     };
-    bad(Channel {
-        direction: 2,
-        ..RECORD
-    });
+    bad(Channel { direction: 2, ..RECORD });
     bad(Channel { ivr: 240, ..RECORD });
     bad(Channel { page: 0, ..RECORD });
     bad(Channel { page: 64, ..RECORD });
-    bad(Channel {
-        dapr: 239,
-        ..RECORD
-    });
+    bad(Channel { dapr: 239, ..RECORD });
     let thirteen: Vec<Channel> = (1..=13).map(record).collect();
     let word = word::return_from();
     refused(&mut image(&[]), &thirteen, word, Refusal::BadList);
     refused(&mut image(&[]), &[RECORD, RECORD], word, Refusal::BadList);
-    assert_eq!(
-        step(&mut image(&[]), &thirteen[..12], word),
-        Answer::Returned
-    );
+    assert_eq!(step(&mut image(&[]), &thirteen[..12], word), Answer::Returned);
     assert_eq!(step(&mut image(&[]), &[record(57)], word), Answer::Returned);
     refused(&mut [0; 1264], &thirteen, word, Refusal::BadLength);
     refused(&mut [0; 1266], &[], word, Refusal::BadLength);
@@ -121,14 +99,7 @@ fn b1_absent_bits_of_idcr() {
     acknowledged[paged(9, 241)] = 0x35;
     let answer = arbitrate(&mut acknowledged, &[RECORD]);
     // D20: IVR with bit 0 cleared.
-    assert_eq!(
-        answer,
-        Answer::Interrupt {
-            source: 8,
-            level: 2,
-            vector: 0x34
-        }
-    );
+    assert_eq!(answer, Answer::Interrupt { source: 8, level: 2, vector: 0x34 });
     assert_eq!(acknowledged[paged(9, 240)], 0xCA);
     let mut ended = dma_image(0xF2, 0x11, 20, 1);
     assert_eq!(arbitrate(&mut ended, &[RECORD]), served(8, true));
@@ -174,16 +145,8 @@ fn b5_tlnm() {
 #[test]
 fn b6_ppr_afresh() {
     let mut image = image(&[(EIPR, 0x5C)]);
-    let words = [
-        word::write(234, 0x24),
-        word::write(243, 0),
-        word::write(234, 0),
-        word::read(243),
-    ];
-    let done = Ran::Done {
-        steps: 4,
-        last: Answer::Byte(0x5C),
-    };
+    let words = [word::write(234, 0x24), word::write(243, 0), word::write(234, 0), word::read(243)];
+    let done = Ran::Done { steps: 4, last: Answer::Byte(0x5C) };
     assert_eq!(run(&mut image, &[RECORD], &words), done);
 }
 
@@ -191,27 +154,14 @@ fn b6_ppr_afresh() {
 fn b8_not_modelled() {
     let mut page_zero = image(&[]);
     for register in [240, 241, 248, 255, 256, 0xFF_FFFF] {
-        refused(
-            &mut page_zero,
-            &[RECORD],
-            word::read(register),
-            Refusal::BadRegister,
-        );
+        refused(&mut page_zero, &[RECORD], word::read(register), Refusal::BadRegister);
     }
     let mut other = image(&[(PPR, 0x28)]);
     for register in 240..=255 {
-        refused(
-            &mut other,
-            &[RECORD],
-            word::write(register, 1),
-            Refusal::BadRegister,
-        );
+        refused(&mut other, &[RECORD], word::write(register, 1), Refusal::BadRegister);
     }
     for register in 0..240 {
-        assert_eq!(
-            step(&mut page_zero, &[], word::read(register)),
-            Answer::Byte(0)
-        );
+        assert_eq!(step(&mut page_zero, &[], word::read(register)), Answer::Byte(0));
     }
 }
 
@@ -229,10 +179,7 @@ fn b11_views() {
 #[test]
 fn b14_a_write_to_idcr() {
     let mut image = image(&[(PPR, 0x24), (paged(9, 240), 0xFF)]);
-    assert_eq!(
-        step(&mut image, &[RECORD], word::read(240)),
-        Answer::Byte(0x3F)
-    );
+    assert_eq!(step(&mut image, &[RECORD], word::read(240)), Answer::Byte(0x3F));
     let lost = Answer::Written { lost: 0 };
     assert_eq!(step(&mut image, &[RECORD], word::write(240, 0xC0)), lost);
     assert_eq!(image[paged(9, 240)], 0x00);
@@ -244,15 +191,9 @@ fn b14_a_write_to_idcr() {
 fn c1_watchdog_sets_both() {
     use Effect::*;
     let mut image = image(&[(EIVR, 0x40)]);
-    assert_eq!(
-        step(&mut image, &[], word::watchdog()),
-        triggered(Raised, Raised)
-    );
+    assert_eq!(step(&mut image, &[], word::watchdog()), triggered(Raised, Raised));
     assert_eq!((image[EIPR], image[CICR]), (0x01, 0x40));
-    assert_eq!(
-        step(&mut image, &[], word::watchdog()),
-        triggered(Merged, Merged)
-    );
+    assert_eq!(step(&mut image, &[], word::watchdog()), triggered(Merged, Merged));
 }
 
 #[test]
@@ -266,18 +207,8 @@ fn c2_not_selected_and_refused() {
     refused(&mut image, &[], word::nmi_edge(2), Refusal::BadNumber);
     refused(&mut image, &[], word::pin_edge(8, 0), Refusal::BadNumber);
     refused(&mut image, &[], word::pin_edge(0, 2), Refusal::BadNumber);
-    refused(
-        &mut image,
-        &[],
-        word::word(2, 4, 9, 0),
-        Refusal::UnknownKind,
-    );
-    refused(
-        &mut image,
-        &[],
-        word::word(6, 0, 0, 0),
-        Refusal::UnknownKind,
-    );
+    refused(&mut image, &[], word::word(2, 4, 9, 0), Refusal::UnknownKind);
+    refused(&mut image, &[], word::word(6, 0, 0, 0), Refusal::UnknownKind);
 }
 
 #[test]
@@ -286,12 +217,7 @@ fn c3_requests_name_positions() {
     let raised = triggered(Effect::Raised, Effect::NotSelected);
     assert_eq!(step(&mut image, &[RECORD], word::request(0)), raised);
     for record in [1, 8] {
-        refused(
-            &mut image,
-            &[RECORD],
-            word::request(record),
-            Refusal::BadNumber,
-        );
+        refused(&mut image, &[RECORD], word::request(record), Refusal::BadNumber);
     }
 }
 
@@ -331,12 +257,7 @@ fn d8_refusals_look_at_the_winner_only() {
     let mut image = dma_image(0x32, 0x11, 20, 9);
     image[paged(10, 240)] = 0x33;
     assert_eq!(arbitrate(&mut image, &channels), served(8, false));
-    refused(
-        &mut image,
-        &channels,
-        word::arbitrate(),
-        Refusal::MemoryTransfer,
-    );
+    refused(&mut image, &channels, word::arbitrate(), Refusal::MemoryTransfer);
 }
 
 #[test]
@@ -365,10 +286,7 @@ fn d10_the_move_hits_the_pair() {
 
 #[test]
 fn d11_the_old_bytes_are_sent() {
-    let sending = Channel {
-        direction: 1,
-        ..RECORD
-    };
+    let sending = Channel { direction: 1, ..RECORD };
     for (address, sent) in [(16, 16), (17, 5)] {
         let mut image = dma_image(0x32, 0x11, address, 5);
         assert_eq!(arbitrate(&mut image, &[sending]), served(8, false));
@@ -387,10 +305,7 @@ fn d14_end_of_block_without_im() {
 #[test]
 fn d17_no_hl_bit_for_seven() {
     let mut image = image(&[(CICR, 0x9F), (EIPR, 1), (EIMR, 1)]);
-    assert!(matches!(
-        arbitrate(&mut image, &[]),
-        Answer::Interrupt { .. }
-    ));
+    assert!(matches!(arbitrate(&mut image, &[]), Answer::Interrupt { .. }));
     assert_eq!((image[NICR], image[CICR]), (0, 0x88));
 }
 
@@ -429,10 +344,7 @@ fn f_runs() {
     let mut image = image(&[]);
     assert_eq!(run(&mut image, &[], &[]), Ran::NoSteps);
     let words = [word::return_from(), word::read(256)];
-    let refused = Ran::RefusedStep {
-        refusal: Refusal::BadRegister,
-        index: 1,
-    };
+    let refused = Ran::RefusedStep { refusal: Refusal::BadRegister, index: 1 };
     assert_eq!(run(&mut image, &[], &words), refused);
     assert_eq!(image[CICR], 0x10);
     let short = run(&mut image[1..], &[], &[]);
@@ -445,26 +357,13 @@ fn f_waits() {
     let arbitration = word::arbitrate();
     let start = image(&[(CICR, 0x97), (EIPR, 1), (EIMR, 1)]);
     let waited = |source, words: &[u64]| wait(&mut start.clone(), &[RECORD], source, words);
-    assert_eq!(
-        waited(0, &[arbitration, unknown]),
-        Waited::Acknowledged { arbitrations: 1 }
-    );
+    assert_eq!(waited(0, &[arbitration, unknown]), Waited::Acknowledged { arbitrations: 1 });
     assert_eq!(
         waited(1, &[arbitration, unknown]),
-        Waited::RefusedStep {
-            refusal: Refusal::UnknownKind,
-            index: 1,
-            arbitrations: 1
-        }
+        Waited::RefusedStep { refusal: Refusal::UnknownKind, index: 1, arbitrations: 1 }
     );
-    assert_eq!(
-        waited(1, &[arbitration; 3]),
-        Waited::Ended { arbitrations: 3 }
-    );
-    assert_eq!(
-        waited(9, &[unknown]),
-        Waited::RefusedCall(Refusal::BadNumber)
-    );
+    assert_eq!(waited(1, &[arbitration; 3]), Waited::Ended { arbitrations: 3 });
+    assert_eq!(waited(9, &[unknown]), Waited::RefusedCall(Refusal::BadNumber));
     assert_eq!(waited(8, &[]), Waited::Ended { arbitrations: 0 });
 }
 
@@ -473,10 +372,7 @@ fn f9_a_transfer_is_no_acknowledgement() {
     let mut image = dma_image(0x3A, 0x11, 20, 1);
     image[CICR] = 0x97;
     let words = [word::arbitrate(); 3];
-    assert_eq!(
-        wait(&mut image, &[RECORD], 8, &words),
-        Waited::Acknowledged { arbitrations: 2 }
-    );
+    assert_eq!(wait(&mut image, &[RECORD], 8, &words), Waited::Acknowledged { arbitrations: 2 });
 }
 
 /// EIPLR 00h: INTB1 is at level 1, and INTA0, INTB0, INTC0, INTD0 at level 0, INTA1 at level 1 outrank it.
@@ -540,10 +436,7 @@ fn g_premises_in_order() {
     assert_eq!(bounded(&image), Bounded::LevelNotAbove);
     image[CICR] = 0x12;
     assert_eq!(bounded(&image), Bounded::OtherStep { index: 0 });
-    assert_eq!(
-        bound(&image, &[RECORD], 9, &[]),
-        Bounded::Refused(Refusal::BadNumber)
-    );
+    assert_eq!(bound(&image, &[RECORD], 9, &[]), Bounded::Refused(Refusal::BadNumber));
 }
 
 #[test]
@@ -553,13 +446,6 @@ fn g5_watchdog_is_a_trigger_of_source_zero() {
         image[EIVR] = eivr;
         image[EITR] = 0xFF;
         let bounded = bound(&image, &[], 3, &[word::watchdog(), word::pin_edge(0, 0)]);
-        assert_eq!(
-            bounded,
-            Bounded::Within {
-                outranking: 1,
-                triggers,
-                bound: 2 + triggers
-            }
-        );
+        assert_eq!(bounded, Bounded::Within { outranking: 1, triggers, bound: 2 + triggers });
     }
 }

@@ -32,15 +32,7 @@ pub fn list(random: &mut Random, count: usize) -> Vec<Channel> {
 fn record(random: &mut Random, page: u8, free: &mut Vec<u8>) -> Channel {
     let mut take = || free.swap_remove(random.below(free.len() as u64) as usize);
     let (idcr, ivr, dcpr, dapr, data) = (take(), take(), take(), take(), take());
-    Channel {
-        page,
-        idcr,
-        ivr,
-        dcpr,
-        dapr,
-        data,
-        direction: random.between(0, 1),
-    }
+    Channel { page, idcr, ivr, dcpr, dapr, data, direction: random.between(0, 1) }
 }
 
 /// The bytes of a list, as they are lent.

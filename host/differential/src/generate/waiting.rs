@@ -7,11 +7,8 @@ use model::{paged, word, Channel, IMAGE_LENGTH, MARK};
 
 /// An image in concurrent mode, no DMA enabled, top level disabled and not in service, in which the source is pending, unmasked and above CPL.
 pub fn waiting_image(random: &mut Random, channels: &[Channel], source: u32) -> Vec<u8> {
-    let mut image = if random.chance(1, 3) {
-        filled(random, IMAGE_LENGTH)
-    } else {
-        vec![0; IMAGE_LENGTH]
-    };
+    let mut image =
+        if random.chance(1, 3) { filled(random, IMAGE_LENGTH) } else { vec![0; IMAGE_LENGTH] };
     for place in [EITR, EIPLR, EIVR, PPR] {
         image[place] = random.byte();
     }
@@ -24,11 +21,7 @@ pub fn waiting_image(random: &mut Random, channels: &[Channel], source: u32) -> 
         image[paged(channel.page, channel.ivr)] = random.byte();
     }
     let level = set_waiting(random, &mut image, channels, source);
-    let cpl = if random.chance(1, 2) {
-        7
-    } else {
-        random.between(level + 1, 7)
-    };
+    let cpl = if random.chance(1, 2) { 7 } else { random.between(level + 1, 7) };
     // GCEN, TLIP and IEN may be anything.
     image[CICR] = random.byte() & 0xD0 | cpl;
     image
@@ -111,10 +104,7 @@ pub fn list_of_calls(random: &mut Random, channels: &[Channel], count: usize) ->
         let others = [word::read(0), word::write(1, 2), word::reset()];
         words.insert(place, random.pick(&others));
     }
-    words
-        .into_iter()
-        .map(|step| with_unused(random, step))
-        .collect()
+    words.into_iter().map(|step| with_unused(random, step)).collect()
 }
 
 /// A step that is refused in every image: a bad number, an unknown kind or a register over 255.
@@ -124,12 +114,7 @@ fn refused_step(random: &mut Random, channels: &[Channel]) -> u64 {
         let step = bad_step(random, channels);
         // Registers of a page depend on PPR.
         let paged = matches!(step >> 48, 0 | 1) && step >> 8 & 0xFF_FFFF < 256;
-        if !paged
-            && matches!(
-                model::step(&mut image, channels, step),
-                model::Answer::Refused(_)
-            )
-        {
+        if !paged && matches!(model::step(&mut image, channels, step), model::Answer::Refused(_)) {
             return step;
         }
     }
@@ -137,9 +122,8 @@ fn refused_step(random: &mut Random, channels: &[Channel]) -> u64 {
 
 /// Takes one return out.
 fn remove_return(random: &mut Random, words: &mut Vec<u64>) {
-    let places: Vec<usize> = (0..words.len())
-        .filter(|place| words[*place] == word::return_from())
-        .collect();
+    let places: Vec<usize> =
+        (0..words.len()).filter(|place| words[*place] == word::return_from()).collect();
     if !places.is_empty() {
         words.remove(random.pick(&places));
     }
