@@ -1,42 +1,12 @@
 //! Answers in words and as objects.
 
-use crate::names::{Place, Role};
+use crate::account::target;
+use crate::names::{Names, Place};
 use crate::number::hex;
+use crate::pending::{Bit, Pending};
+use crate::why::Around;
 use crate::{Object, Operation, StepLine};
 use st9::{register, Answer, Bound, Channel, Effect, Refusal, Source, Step};
-
-/// The pending bit of CICR, and that of a record's IDCR.
-const TLIP: u8 = 0x40;
-const IP: u8 = 0x20;
-
-/// What a step's answer is told from, beside the answer: the registers that decide where it goes and what is eligible,
-/// as they were before the step.
-#[derive(Clone, Copy, Debug, PartialEq, Eq)]
-pub struct Before {
-    cicr: u8,
-    mark: u8,
-    /// What a read or a write goes to, and the byte there.
-    addressed: Option<(Place, u8)>,
-}
-
-impl Before {
-    /// Of an image and a step; bytes that the image does not have count as 0.
-    pub fn of(image: &[u8], step: Step) -> Before {
-        let byte = |index: usize| image.get(index).copied().unwrap_or_default();
-        let page = byte(register::PPR.into()) >> 2;
-        let place = match Step::of_word(step.word()) {
-            Step::Read { register } | Step::Write { register, .. } => {
-                u8::try_from(register).ok().map(|number| Place::of(page, number))
-            }
-            _ => None,
-        };
-        Before {
-            cicr: byte(register::CICR.into()),
-            mark: byte(st9::MARK),
-            addressed: place.map(|place| (place, byte(place.0))),
-        }
-    }
-}
 
 /// A step and its answer, to be told.
 #[derive(Clone, Copy, Debug)]
@@ -45,29 +15,26 @@ pub struct Report<'a> {
     pub index: usize,
     /// The step and its line.
     pub step: StepLine,
-    /// The registers before it.
-    pub before: Before,
     /// What the model answered.
     pub answer: Result<Answer, Refusal>,
+    /// The image before it.
+    pub before: &'a [u8],
+    /// The image after it.
+    pub after: &'a [u8],
     /// The channel list.
     pub channels: &'a [Channel],
+    /// Names of one's own.
+    pub names: &'a Names,
 }
 
 impl Report<'_> {
     /// The line of the step: index, statement, answer. The index takes `width` columns.
     pub fn line(&self, width: usize) -> String {
         let statement = self.step.operation.to_string();
-        let words = self.words();
-        match self.answer {
-            Err(_) => {
-                let place = place_of_step(self.index, self.step.line);
-                format!("{:width$}  {statement:<20}  {words} ({place})", self.index)
-            }
-            Ok(_) => format!("{:width$}  {statement:<20}  {words}", self.index),
-        }
+        format!("{:width$}  {statement:<20}  {}", self.index, self.words())
     }
 
-    /// The answer in words.
+    /// The answer in words; what the command adds is in parentheses.
     pub fn words(&self) -> String {
         let words = match self.answer {
             Ok(answer) => self.answer_words(answer),
@@ -83,83 +50,111 @@ impl Report<'_> {
         match answer {
             Answer::Byte(byte) => self.byte_words(byte),
             Answer::Written { erased } => self.written_words(erased),
-            Answer::Triggered { maskable, tlip } => self.trigger_words(maskable, tlip),
-            Answer::Nothing => self.nothing_words(),
+            Answer::Triggered { .. } => {
+                let told = self.told_effects();
+                let told = told.map(|(bit, effect)| self.effect_words(bit, effect));
+                told.collect::<Vec<_>>().join("; ")
+            }
+            Answer::Nothing => format!("none ({})", self.around().nothing()),
             Answer::TopLevel { vector } => {
                 format!("acknowledged the top level, vector {}", hex(vector))
             }
             Answer::Interrupt { source, level, vector } => {
+                let source = self.names.told(source);
                 format!("acknowledged {source}, level {level}, vector {}", hex(vector))
             }
             Answer::Transferred { source, ended } => {
                 let end = if ended { ", block ended" } else { "" };
-                format!("DMA of {source}: one byte moved{end}")
+                format!("DMA of {}: one byte moved{end}", self.names.told(source))
             }
-            Answer::Returned => "returned".to_string(),
-            Answer::Reset => "reset".to_string(),
+            Answer::Returned => format!("returned ({})", self.around().returned()),
+            Answer::Reset => match self.erased_names() {
+                erased if erased.is_empty() => "reset".to_string(),
+                erased => format!("reset (erases {erased})"),
+            },
         }
     }
 
     fn byte_words(&self, byte: u8) -> String {
         let role = self.place().map(|place| place.role(self.channels));
-        let bits = role.map(|role| role.set_bits(byte)).unwrap_or_default();
+        let bits = role.map(|role| role.set_bits(byte, self.names)).unwrap_or_default();
         match bits.is_empty() {
-            true => hex(byte),
-            false => format!("{}: {bits}", hex(byte)),
+            true => format!("byte {}", hex(byte)),
+            false => format!("byte {} ({bits})", hex(byte)),
         }
     }
 
     fn written_words(&self, erased: u8) -> String {
-        let pending = self.erased_names(erased).join(", ");
-        match self.place().map(|place| place.role(self.channels)) {
-            _ if erased != 0 => format!("erased {}: {pending}", hex(erased)),
-            _ if !pending.is_empty() => format!("erased {pending}"),
-            Some(Role::Named(register::EIPR)) => "written, no pending bit erased".to_string(),
-            _ => "written".to_string(),
+        let names = self.erased_names();
+        let words = match (erased, names.is_empty()) {
+            (0, true) => "written".to_string(),
+            (0, false) => format!("erased {names}"),
+            _ => format!("erased {}: {names}", hex(erased)),
+        };
+        let beside = match (self.place(), self.meaning()) {
+            (Some(place), Step::Write { value, .. }) => self.around().written(place, value),
+            _ => None,
+        };
+        match beside {
+            Some(beside) => format!("{words} ({beside})"),
+            None => words,
         }
     }
 
-    /// The pending bits that a write took from 1 to 0: EIPR's by the model's answer; TLIP and a record's IP, which are
-    /// not in document 01's answer, by the byte before and the value.
-    fn erased_names(&self, erased: u8) -> Vec<String> {
-        let (Some((place, byte)), Step::Write { value, .. }) =
-            (self.before.addressed, self.meaning())
-        else {
+    /// The pending bits that a write or a reset took from 1 to 0. EIPR's of a write by the model's answer; TLIP and a
+    /// record's IP, which are not in document 01's answer, and those of a reset by the bytes before and after.
+    pub(crate) fn erased(&self) -> Vec<Bit> {
+        let erased = match self.answer {
+            Ok(Answer::Written { erased }) => erased,
+            Ok(Answer::Reset) => return self.fallen().bits().collect(),
+            _ => return Vec::new(),
+        };
+        let external = (0..8).filter(|position| erased >> position & 1 == 1);
+        let others = self.fallen().bits().filter(|bit| !matches!(bit, Bit::Of(Source(0..=7))));
+        external.map(|position| Bit::Of(Source(position))).chain(others).collect()
+    }
+
+    fn erased_names(&self) -> String {
+        let names = self.erased().into_iter().map(|bit| bit.told_as_bit(self.names));
+        names.collect::<Vec<_>>().join(", ")
+    }
+
+    fn fallen(&self) -> Pending {
+        let before = Pending::of(self.before, self.channels);
+        before.without(Pending::of(self.after, self.channels))
+    }
+
+    /// What a trigger did to its maskable bit and to TLIP. One that has no maskable bit selects none.
+    pub(crate) fn effects(&self) -> Vec<(Bit, Effect)> {
+        let Ok(Answer::Triggered { maskable, tlip }) = self.answer else {
             return Vec::new();
         };
-        let fallen = byte & !value;
-        match place.role(self.channels) {
-            Role::Named(register::CICR) if fallen & TLIP != 0 => vec!["TLIP".to_string()],
-            Role::Idcr(record) if fallen & IP != 0 => vec![format!("IP of channel {record}")],
-            _ => external_names(erased).map(str::to_string).collect(),
-        }
+        let bit = match target(self.meaning()) {
+            None if maskable == Effect::NotSelected => None,
+            bit => Some(bit.unwrap_or(Bit::Of(Source::INTA0))),
+        };
+        bit.map(|bit| (bit, maskable)).into_iter().chain([(Bit::Tlip, tlip)]).collect()
     }
 
-    fn trigger_words(&self, maskable: Effect, tlip: Effect) -> String {
-        match self.meaning() {
-            Step::Pin { pin, .. } => effect_words(maskable, &Source(pin).to_string()),
-            Step::Request { record } => {
-                effect_words(maskable, &Source::channel(record).to_string())
-            }
-            Step::Nmi { .. } => effect_words(tlip, "TLIP"),
-            _ => {
-                let external = effect_words(maskable, "INTA0");
-                format!("{external}; {}", effect_words(tlip, "TLIP"))
-            }
-        }
+    /// Those worth telling: TLIP of a trigger that can select it, or did.
+    fn told_effects(&self) -> impl Iterator<Item = (Bit, Effect)> {
+        let of_tlip = matches!(self.meaning(), Step::Nmi { .. } | Step::Watchdog);
+        let told = move |(bit, effect): &(Bit, Effect)| {
+            *bit != Bit::Tlip || of_tlip || *effect != Effect::NotSelected
+        };
+        self.effects().into_iter().filter(told)
     }
 
-    /// Document 01's two reasons: the mark is set, or no request is eligible.
-    fn nothing_words(&self) -> String {
-        if self.before.mark != 0 {
-            return "none: the top level is in service".to_string();
+    fn effect_words(&self, bit: Bit, effect: Effect) -> String {
+        let told = bit.told(self.names);
+        match effect {
+            Effect::NotSelected => {
+                let why = self.around().not_selected(self.meaning(), bit);
+                format!("{told} not selected ({why})")
+            }
+            Effect::Raised => format!("raised {told}"),
+            Effect::Merged => format!("merged {told} (already pending)"),
         }
-        let cicr = Role::Named(register::CICR).fields().iter();
-        let decisive = cicr.filter(|field| ["IEN", "CPL"].contains(&field.name));
-        let told =
-            decisive.map(|field| format!("{} {}", field.name, field.value(self.before.cicr)));
-        let told = told.collect::<Vec<_>>().join(", ");
-        format!("none: no request is eligible ({told})")
     }
 
     /// Where a read or a write of R240 to R255 goes, unless it is by the name that the register has.
@@ -176,7 +171,18 @@ impl Report<'_> {
 
     /// The byte that a read or a write goes to.
     fn place(&self) -> Option<Place> {
-        self.before.addressed.map(|(place, _)| place)
+        let page = self.before.get(usize::from(register::PPR)).copied().unwrap_or_default() >> 2;
+        match self.meaning() {
+            Step::Read { register } | Step::Write { register, .. } => {
+                u8::try_from(register).ok().map(|number| Place::of(page, number))
+            }
+            _ => None,
+        }
+    }
+
+    fn around(&self) -> Around<'_> {
+        let Report { before, after, channels, names, .. } = *self;
+        Around { before, after, channels, names }
     }
 
     fn meaning(&self) -> Step {
@@ -207,10 +213,17 @@ impl Report<'_> {
     fn answer_json(&self, object: Object, answer: Answer) -> Object {
         match answer {
             Answer::Byte(byte) => object.text("answer", "byte").number("byte", byte.into()),
-            Answer::Written { erased } => object
-                .text("answer", "written")
-                .number("erased", erased.into())
-                .texts("pending", self.erased_names(erased).iter().map(String::as_str)),
+            Answer::Written { erased } => {
+                let names: Vec<_> = self
+                    .erased()
+                    .into_iter()
+                    .map(|bit| bit.told_as_bit(&Names::default()))
+                    .collect();
+                object
+                    .text("answer", "written")
+                    .number("erased", erased.into())
+                    .texts("pending", names.iter().map(String::as_str))
+            }
             Answer::Triggered { maskable, tlip } => object
                 .text("answer", "triggered")
                 .text("maskable", effect_name(maskable))
@@ -221,21 +234,17 @@ impl Report<'_> {
             }
             Answer::Interrupt { source, level, vector } => object
                 .text("answer", "interrupt")
-                .source(source)
+                .source(source, self.names)
                 .number("level", level.into())
                 .number("vector", vector.into()),
-            Answer::Transferred { source, ended } => {
-                object.text("answer", "transferred").source(source).truth("ended", ended)
-            }
+            Answer::Transferred { source, ended } => object
+                .text("answer", "transferred")
+                .source(source, self.names)
+                .truth("ended", ended),
             Answer::Returned => object.text("answer", "returned"),
             Answer::Reset => object.text("answer", "reset"),
         }
     }
-}
-
-fn external_names(bits: u8) -> impl Iterator<Item = &'static str> {
-    let named = Source::EXTERNAL.into_iter().enumerate();
-    named.filter(move |(position, _)| bits >> position & 1 == 1).map(|(_, name)| name)
 }
 
 fn effect_name(effect: Effect) -> &'static str {
@@ -246,22 +255,9 @@ fn effect_name(effect: Effect) -> &'static str {
     }
 }
 
-fn effect_words(effect: Effect, bit: &str) -> String {
-    match effect {
-        Effect::NotSelected => format!("{bit} not selected"),
-        Effect::Raised => format!("raised {bit}"),
-        Effect::Merged => format!("merged {bit}: already pending"),
-    }
-}
-
-/// A refusal with its number and document 01's words.
+/// A refusal with its number; document 01's words in parentheses.
 pub fn refused(refusal: Refusal) -> String {
-    format!("refused with {}: {refusal}", refusal.number())
-}
-
-/// A step's index, from 0, and its line.
-pub fn place_of_step(index: usize, line: u32) -> String {
-    format!("step {index}, line {line}")
+    format!("refused with {} ({refusal})", refusal.number())
 }
 
 /// A number of things: `1 step`, `2 steps`.
@@ -272,24 +268,30 @@ pub fn counted(number: u64, thing: &str) -> String {
     }
 }
 
-/// A bound in words; a premise of steps with the step and its line.
-pub fn bound_words(bound: Bound, steps: &[StepLine]) -> String {
+/// A bound in words; a premise of steps with the step, its index counted from `from`, and its line.
+pub fn bound_words(bound: Bound, steps: &[StepLine], from: usize) -> String {
     match bound {
-        Bound::Within {
-            outranking,
-            triggers,
-            bound,
-        } => format!(
-            "by arbitration {bound} at the latest \
-             (H {outranking}: outranking sources pending at the start, E {triggers}: triggers of outranking sources in the list)"
-        ),
+        Bound::Within { outranking, triggers, bound } => {
+            format!("by arbitration {bound} at the latest, H {outranking}, E {triggers}")
+        }
         Bound::Fails(premise) => {
-            let found = premise.index().and_then(|index| Some((index, steps.get(index)?)));
+            let found = premise.index().map(|index| from + index);
+            let found = found.and_then(|index| Some((index, steps.get(index)?)));
             let place = found.map(|(index, step)| {
-                let place = place_of_step(index, step.line);
-                format!(" ({place}: {})", step.operation)
+                format!(" at step {index} (line {}: {})", step.line, step.operation)
             });
             format!("none, as a premise fails: {premise}{}", place.unwrap_or_default())
         }
+    }
+}
+
+/// The same with what H and E are.
+pub fn bound_explained(bound: Bound, steps: &[StepLine], from: usize) -> String {
+    let words = bound_words(bound, steps, from);
+    match bound {
+        Bound::Within { .. } => format!(
+            "{words} (if the list has so many; H: outranking sources pending at the start, E: triggers of outranking sources in the list)"
+        ),
+        Bound::Fails(_) => words,
     }
 }

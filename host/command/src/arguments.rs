@@ -1,15 +1,17 @@
 //! The command line.
 
 use crate::help;
+use crate::options::{none_left, shown, usage, Options};
 use crate::output::Failure;
-use st9::Source;
+use scenario::Loss;
 use std::ffi::{OsStr, OsString};
-use std::os::unix::ffi::{OsStrExt, OsStringExt};
+use std::os::unix::ffi::OsStrExt;
 
 /// What is to be done.
 pub enum Command {
     Help(String),
     Run(Run),
+    Test(Test),
     Wait(Wait),
     Show(Show),
 }
@@ -18,13 +20,25 @@ pub struct Run {
     pub file: OsString,
     pub json: bool,
     pub quiet: bool,
+    pub verbose: bool,
     pub save: Option<OsString>,
+    pub fail_on: Vec<Loss>,
+}
+
+pub struct Test {
+    pub files: Vec<OsString>,
+    pub json: bool,
+    pub fail_on: Vec<Loss>,
 }
 
 pub struct Wait {
     pub file: OsString,
-    pub source: Source,
+    /// By name or number; names of one's own are the scenario's.
+    pub source: Option<OsString>,
     pub json: bool,
+    pub save: Option<OsString>,
+    pub fail_on_never: bool,
+    pub within: Option<u64>,
 }
 
 pub struct Show {
@@ -46,13 +60,23 @@ pub fn command(words: &[OsString]) -> Result<Command, Failure> {
             none_left(rest)?;
             Ok(Command::Help(help::version()))
         }
-        "run" | "wait" | "show" if help_wanted => Ok(Command::Help(help::USAGE.to_string())),
-        "run" => run(Options::read(rest, &["--json", "--quiet"], &["--save"])?),
-        "wait" => wait(Options::read(rest, &["--json"], &["--source"])?),
-        "show" => show(Options::read(rest, &["--json"], &["--page"])?),
-        _ => {
-            Err(usage(&format!("{} is no command: expected run, wait, show or help", shown(name))))
+        "run" | "test" | "wait" | "show" if help_wanted => {
+            Ok(Command::Help(help::USAGE.to_string()))
         }
+        "run" => {
+            run(Options::read(rest, &["--json", "--quiet", "--verbose"], &["--save", "--fail-on"])?)
+        }
+        "test" => test(Options::read(rest, &["--json"], &["--fail-on"])?),
+        "wait" => wait(Options::read(
+            rest,
+            &["--json"],
+            &["--source", "--save", "--fail-on", "--within"],
+        )?),
+        "show" => show(Options::read(rest, &["--json"], &["--page"])?),
+        _ => Err(usage(&format!(
+            "{} is no command: expected run, test, wait, show or help",
+            shown(name)
+        ))),
     }
 }
 
@@ -63,33 +87,88 @@ fn topic(words: &[OsString]) -> Result<Command, Failure> {
     none_left(rest)?;
     match word.to_str().and_then(help::topic) {
         Some(text) => Ok(Command::Help(text.to_string())),
-        None => Err(usage(&format!("{} is no topic: expected scenario or json", shown(word)))),
+        None => {
+            Err(usage(&format!("{} is no topic: expected scenario, expect or json", shown(word))))
+        }
     }
 }
 
 fn run(mut options: Options) -> Result<Command, Failure> {
-    let save = options.value("--save");
-    if save.as_deref() == Some(OsStr::new("-")) {
-        return Err(usage("'-' is no file to save to: expected a file's name"));
+    let (quiet, verbose) = (options.flag("--quiet"), options.flag("--verbose"));
+    if quiet && verbose {
+        return Err(usage("--quiet and --verbose: expected one of them"));
     }
     Ok(Command::Run(Run {
         json: options.flag("--json"),
-        quiet: options.flag("--quiet"),
-        save,
+        quiet,
+        verbose,
+        save: save(&mut options)?,
+        fail_on: losses(&mut options)?,
         file: options.only("a scenario file")?,
     }))
 }
 
-fn wait(mut options: Options) -> Result<Command, Failure> {
-    const EXPECTED: &str = "--source with a name as INTB1 or CH0, or a number";
-    let json = options.flag("--json");
-    let Some(word) = options.value("--source") else {
-        return Err(usage(&format!("the source is missing: expected {EXPECTED}")));
+fn save(options: &mut Options) -> Result<Option<OsString>, Failure> {
+    let save = options.value("--save");
+    match save.as_deref() == Some(OsStr::new("-")) {
+        true => Err(usage("'-' is no file to save to: expected a file's name")),
+        false => Ok(save),
+    }
+}
+
+/// The losses of `--fail-on`, each once.
+fn losses(options: &mut Options) -> Result<Vec<Loss>, Failure> {
+    let Some(words) = options.value("--fail-on") else {
+        return Ok(Vec::new());
     };
-    let source = scenario::source(word.as_bytes())
-        .ok_or_else(|| usage(&format!("{} is no source: expected {EXPECTED}", shown(&word))))?;
-    let file = options.only("a scenario file")?;
-    Ok(Command::Wait(Wait { file, source, json }))
+    let mut losses = Vec::new();
+    for word in words.as_bytes().split(|byte| *byte == b',').map(<[u8]>::trim_ascii) {
+        let named = |loss: &Loss| loss.name().as_bytes().eq_ignore_ascii_case(word);
+        let Some(loss) = Loss::ALL.into_iter().find(named) else {
+            let found = shown(OsStr::from_bytes(word));
+            return Err(usage(&format!(
+                "--fail-on {found}: expected erased, merged, pending, unselected, or several with commas between them"
+            )));
+        };
+        if !losses.contains(&loss) {
+            losses.push(loss);
+        }
+    }
+    Ok(losses)
+}
+
+fn test(mut options: Options) -> Result<Command, Failure> {
+    let fail_on = losses(&mut options)?;
+    let json = options.flag("--json");
+    let files = options.others("scenario files, or folders of them")?;
+    Ok(Command::Test(Test { files, json, fail_on }))
+}
+
+fn wait(mut options: Options) -> Result<Command, Failure> {
+    let source = options.value("--source");
+    let save = save(&mut options)?;
+    if save.is_some() && source.is_none() {
+        return Err(usage("--save without a source: expected --source with it"));
+    }
+    let fail_on_never = match options.value("--fail-on") {
+        None => false,
+        Some(word) if word.eq_ignore_ascii_case("never") => true,
+        Some(word) => return Err(usage(&format!("--fail-on {}: expected never", shown(&word)))),
+    };
+    let within = options.value("--within").map(|word| {
+        let number = scenario::number(word.as_bytes());
+        number.ok_or_else(|| {
+            usage(&format!("--within {}: expected a number of arbitrations", shown(&word)))
+        })
+    });
+    Ok(Command::Wait(Wait {
+        source,
+        json: options.flag("--json"),
+        save,
+        fail_on_never,
+        within: within.transpose()?,
+        file: options.only("a scenario file")?,
+    }))
 }
 
 fn show(mut options: Options) -> Result<Command, Failure> {
@@ -102,113 +181,4 @@ fn show(mut options: Options) -> Result<Command, Failure> {
     };
     let image = options.only("an image file, or - for standard input")?;
     Ok(Command::Show(Show { image, page, json }))
-}
-
-/// Options by name with their values, and the other words.
-struct Options {
-    named: Vec<(&'static str, Option<OsString>)>,
-    others: Vec<OsString>,
-}
-
-impl Options {
-    fn read(
-        words: &[OsString],
-        flags: &[&'static str],
-        valued: &[&'static str],
-    ) -> Result<Options, Failure> {
-        let mut options = Options { named: Vec::new(), others: Vec::new() };
-        let mut words = words.iter().cloned();
-        while let Some(word) = words.next() {
-            if word == "--" {
-                options.others.extend(words);
-                break;
-            }
-            if word == "-" || !word.as_bytes().starts_with(b"-") {
-                options.others.push(word);
-                continue;
-            }
-            let (name, inline) = split(&word);
-            if let (Some(flag), None) = (known(flags, name), &inline) {
-                options.add(flag, None)?;
-            } else if let Some(option) = known(valued, name) {
-                let value = inline.or_else(|| value(option, &mut words));
-                let value = value.ok_or_else(|| {
-                    usage(&format!("{option} has no value: expected one after it"))
-                })?;
-                options.add(option, Some(value))?;
-            } else {
-                let expected = [flags, valued].concat().join(", ");
-                let found = shown(&word);
-                return Err(usage(&format!("{found} is no option here: expected {expected}")));
-            }
-        }
-        Ok(options)
-    }
-
-    fn add(&mut self, name: &'static str, value: Option<OsString>) -> Result<(), Failure> {
-        if self.flag(name) {
-            return Err(usage(&format!("{name} stands twice: expected it once")));
-        }
-        self.named.push((name, value));
-        Ok(())
-    }
-
-    fn flag(&self, name: &str) -> bool {
-        self.named.iter().any(|(known, _)| *known == name)
-    }
-
-    fn value(&mut self, name: &str) -> Option<OsString> {
-        let position = self.named.iter().position(|(known, _)| *known == name)?;
-        self.named.swap_remove(position).1
-    }
-
-    /// The one word that is no option.
-    fn only(&mut self, what: &str) -> Result<OsString, Failure> {
-        match self.others.len() {
-            0 => Err(usage(&format!("the file is missing: expected {what}"))),
-            1 => Ok(self.others.remove(0)),
-            _ => Err(usage(&format!(
-                "{} is one word too many: expected {what}",
-                shown(&self.others[1])
-            ))),
-        }
-    }
-}
-
-/// An option's name and the value after `=`, which may be in any bytes, as a file's name is.
-fn split(word: &OsStr) -> (&[u8], Option<OsString>) {
-    let bytes = word.as_bytes();
-    match bytes.iter().position(|byte| *byte == b'=') {
-        Some(equals) => (&bytes[..equals], Some(OsString::from_vec(bytes[equals + 1..].to_vec()))),
-        None => (bytes, None),
-    }
-}
-
-fn known(names: &[&'static str], name: &[u8]) -> Option<&'static str> {
-    names.iter().copied().find(|known| known.as_bytes() == name)
-}
-
-/// The value that stands after an option. `channel 0` may be two words.
-fn value(option: &str, words: &mut impl Iterator<Item = OsString>) -> Option<OsString> {
-    let mut value = words.next()?;
-    if option == "--source" && value.eq_ignore_ascii_case("channel") {
-        value.push(" ");
-        value.push(words.next()?);
-    }
-    Some(value)
-}
-
-fn none_left(words: &[OsString]) -> Result<(), Failure> {
-    match words.first() {
-        Some(word) => Err(usage(&format!("{} is one word too many: expected none", shown(word)))),
-        None => Ok(()),
-    }
-}
-
-fn usage(problem: &str) -> Failure {
-    Failure(format!("st9: {problem}\n{}", help::HINT))
-}
-
-fn shown(word: &OsStr) -> String {
-    format!("'{}'", word.as_bytes().escape_ascii())
 }

@@ -1,7 +1,7 @@
 //! The registers that differ between two images.
 
 use crate::number::hex;
-use crate::{Object, Place};
+use crate::{Names, Object, Place};
 use st9::Channel;
 use std::fmt::Write;
 
@@ -31,22 +31,22 @@ pub fn changes(before: &[u8], after: &[u8]) -> Vec<Change> {
 
 impl Change {
     /// `CICR R230  97h -> 87h  IEN 1 -> 0`.
-    pub fn words(&self, channels: &[Channel]) -> String {
+    pub fn words(&self, channels: &[Channel], names: &Names) -> String {
         let title = self.place.title(channels);
         let mut words = format!("{title}  {} -> {}", hex(self.before), hex(self.after));
         let mut separator = "  ";
         for field in self.place.role(channels).fields() {
             if field.value(self.before) != field.value(self.after) {
                 let (before, after) = (field.value_told(self.before), field.value_told(self.after));
-                let _ = write!(words, "{separator}{} {before} -> {after}", field.name);
+                let _ = write!(words, "{separator}{} {before} -> {after}", field.title(names));
                 separator = ", ";
             }
         }
         words
     }
 
-    /// The change as an object.
-    pub fn json(&self, channels: &[Channel]) -> String {
+    /// The change as an object; of one step with its index.
+    pub fn json(&self, channels: &[Channel], step: Option<usize>) -> String {
         let fields = self.place.role(channels).fields().iter();
         let changed = fields
             .filter(|field| field.value(self.before) != field.value(self.after))
@@ -58,8 +58,12 @@ impl Change {
                     .end()
             });
         let changed = changed.collect::<Vec<_>>();
-        Object::new()
-            .text("type", "change")
+        let object = Object::new().text("type", "change");
+        let object = match step {
+            Some(step) => object.number("step", step as u64),
+            None => object,
+        };
+        object
             .place(self.place, channels)
             .number("before", self.before.into())
             .number("after", self.after.into())
@@ -97,7 +101,7 @@ mod tests {
         ];
         for (place, before, after, words) in expected {
             let change = Change { place, before, after };
-            assert_eq!(change.words(&[channel]), words);
+            assert_eq!(change.words(&[channel], &Names::default()), words);
         }
     }
 

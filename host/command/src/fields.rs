@@ -1,8 +1,8 @@
 //! The bits of registers by name.
 
-use crate::names::Role;
-use crate::number::hex;
-use st9::register;
+use crate::names::{source, Names, Place, Role};
+use crate::number::{hex, number};
+use st9::{register, Source};
 
 /// A bit or a row of bits of a register.
 #[derive(Clone, Copy, Debug, PartialEq, Eq)]
@@ -92,6 +92,88 @@ const IDCR: &[Field] = &[
     row("absent bits 7:6", 7, 6, Form::Absent),
 ];
 
+/// Bits of a byte: those of a mask, and what they are.
+#[derive(Clone, Copy, Debug, PartialEq, Eq)]
+pub struct Bits {
+    /// Which.
+    pub mask: u8,
+    /// Their values, 0 outside of the mask.
+    pub value: u8,
+}
+
+impl Bits {
+    /// All eight.
+    pub fn byte(value: u8) -> Bits {
+        Bits { mask: 0xFF, value }
+    }
+
+    /// A byte with these bits stored in it.
+    pub fn stored_in(self, byte: u8) -> u8 {
+        byte & !self.mask | self.value
+    }
+
+    /// Whether a byte has these bits.
+    pub fn are_in(self, byte: u8) -> bool {
+        byte & self.mask == self.value
+    }
+
+    /// The bits as they are written: `97h`, `IEN=1 CPL=7`.
+    pub(crate) fn written(self, place: Place) -> String {
+        if self.mask == 0xFF {
+            return hex(self.value);
+        }
+        let fields = place.fields().iter().filter(|field| self.mask & field.mask() != 0);
+        let words =
+            fields.map(|field| format!("{}={}", field.word(), field.value_told(self.value)));
+        words.collect::<Vec<_>>().join(" ")
+    }
+}
+
+impl Place {
+    /// The fields by which a byte can be written before the channel list is known: on pages from 1 on those of an IDCR.
+    pub(crate) fn fields(self) -> &'static [Field] {
+        match (self.role(&[]), self.register()) {
+            (Role::Plain, Some((_, Some(1..)))) => IDCR,
+            (role, _) => role.fields(),
+        }
+    }
+
+    /// The bits that a word as `IEN=1` names; own names stand for the bits of external channels.
+    pub(crate) fn bits(self, word: &[u8], names: &Names) -> Result<Bits, String> {
+        let fields = self.fields().iter().filter(|field| field.form != Form::Absent);
+        let known = fields.clone().map(Field::word).collect::<Vec<_>>().join(", ");
+        let equals = word.iter().position(|byte| *byte == b'=');
+        let (name, value) = match equals {
+            Some(equals) => (&word[..equals], &word[equals + 1..]),
+            None => return Err("a field as IEN=1".to_string()),
+        };
+        let own = names.own(name).and_then(external_name).map(str::as_bytes);
+        let name = own.unwrap_or(name);
+        let named = |field: &&Field| field.word().as_bytes().eq_ignore_ascii_case(name);
+        let Some(field) = fields.clone().find(named) else {
+            return Err(match known.is_empty() {
+                true => "a byte: this register's bits have no names".to_string(),
+                false => format!("a field of {known}"),
+            });
+        };
+        let value = number(value).and_then(|value| field.placed(value));
+        let value = value.ok_or_else(|| format!("{} of {}", field.word(), field.values()))?;
+        Ok(Bits { mask: field.mask(), value })
+    }
+}
+
+/// Whether some register has a field of this name.
+pub(crate) fn is_field(word: &[u8]) -> bool {
+    let tables = [CICR, PPR, EXTERNAL, EIPLR, EIVR, NICR, IDCR];
+    tables.iter().flat_map(|table| table.iter()).any(|field| {
+        field.form != Form::Absent && field.word().as_bytes().eq_ignore_ascii_case(word)
+    })
+}
+
+fn external_name(source: Source) -> Option<&'static str> {
+    Source::EXTERNAL.get(source.0 as usize).copied()
+}
+
 impl Role {
     /// The fields of a register, none where its bits have no names.
     pub fn fields(self) -> &'static [Field] {
@@ -108,13 +190,13 @@ impl Role {
     }
 
     /// The set bits and the numbers of a byte in words: `IEN, CPL 7`; empty where there is nothing to name.
-    pub fn set_bits(self, byte: u8) -> String {
+    pub fn set_bits(self, byte: u8, names: &Names) -> String {
         let named = |field: &&Field| match field.form {
             Form::Absent => false,
             _ => !field.is_bit() || field.value(byte) != 0,
         };
         let words = |field: &Field| match field.is_bit() {
-            true => field.name.to_string(),
+            true => field.title(names),
             false => field.told(byte),
         };
         joined(self.fields().iter().filter(named).map(words))
@@ -141,6 +223,41 @@ impl Field {
     pub fn value(&self, byte: u8) -> u8 {
         let width = self.high - self.low + 1;
         (byte >> self.low) & (0xFF >> (8 - width))
+    }
+
+    /// The bits of this field.
+    pub(crate) fn mask(&self) -> u8 {
+        self.value(0xFF) << self.low
+    }
+
+    /// The name, with the own name of the external channel that a bit is of.
+    pub(crate) fn title(&self, names: &Names) -> String {
+        match source(self.name.as_bytes()) {
+            Some(source) => names.told(source),
+            None => self.name.to_string(),
+        }
+    }
+
+    /// The name as one word.
+    fn word(&self) -> String {
+        self.name.replace(' ', "")
+    }
+
+    /// A value as it is written, at its place in a byte; none where it does not fit.
+    fn placed(&self, value: u64) -> Option<u8> {
+        let value = u8::try_from(value).ok()?;
+        match self.form {
+            Form::Vector => (value & !self.mask() == 0).then_some(value),
+            _ => (value <= self.value(0xFF)).then(|| value << self.low),
+        }
+    }
+
+    /// The values that can be written.
+    fn values(&self) -> String {
+        match self.form {
+            Form::Vector => "00h, 10h to F0h".to_string(),
+            _ => format!("0 to {}", self.value(0xFF)),
+        }
     }
 
     /// The field's value as it is printed.
@@ -188,7 +305,7 @@ mod tests {
             (Role::Plain, 0xFF, ""),
         ];
         for (role, byte, words) in expected {
-            assert_eq!(role.set_bits(byte), words);
+            assert_eq!(role.set_bits(byte, &Names::default()), words);
         }
     }
 
@@ -199,6 +316,38 @@ mod tests {
                 table.iter().map(|field| u32::from(field.value(0xFF)) << field.low).sum();
             assert_eq!(sum, 0xFF);
         }
+    }
+
+    #[test]
+    fn bits_by_field() {
+        let mut names = Names::default();
+        names.give("FAN", Source::INTC0).expect("a name");
+        let (cicr, eipr) = (Place::of(0, 230), Place::of(0, 243));
+        let good: [(Place, &str, u8, u8); 7] = [
+            (cicr, "IEN=1", 0x10, 0x10),
+            (cicr, "cpl=5", 0x07, 0x05),
+            (eipr, "INTB0=0", 0x04, 0x00),
+            (eipr, "fan=1", 0x10, 0x10),
+            (Place::of(0, 245), "groupC=2", 0x30, 0x20),
+            (Place::of(0, 246), "vector=40h", 0xF0, 0x40),
+            (Place::of(9, 241), "PRL=3", 0x07, 0x03),
+        ];
+        for (place, word, mask, value) in good {
+            let bits = Bits { mask, value };
+            assert_eq!(place.bits(word.as_bytes(), &names), Ok(bits), "{word}");
+            assert_eq!(place.bits(bits.written(place).as_bytes(), &names), Ok(bits), "{word}");
+        }
+        let bad = [
+            (cicr, "IEN=2", "IEN of 0 to 1"),
+            (cicr, "FOO=1", "a field of GCEN, TLIP, TLI, IEN, IAM, CPL"),
+            (cicr, "IEN", "a field as IEN=1"),
+            (Place::of(0, 246), "vector=41h", "vector of 00h, 10h to F0h"),
+            (Place::of(0, 16), "IP=1", "a byte: this register's bits have no names"),
+        ];
+        for (place, word, problem) in bad {
+            assert_eq!(place.bits(word.as_bytes(), &names), Err(problem.to_string()), "{word}");
+        }
+        assert_eq!(Bits { mask: 0x17, value: 0x15 }.stored_in(0x8A), 0x9D);
     }
 
     #[test]

@@ -1,25 +1,57 @@
-//! A whole scenario.
+//! A whole scenario: its cases.
 
+use crate::doubt::{self, Doubt};
+use crate::expectation::{Came, Expect, Expected};
+use crate::fields::Bits;
+use crate::names::{Names, Role};
 use crate::parse;
-use crate::statement::{ImageName, Operation, Statement};
+use crate::statement::{Call, ImageName, Operation, Statement};
 use crate::Place;
-use st9::Channel;
+use st9::{Channel, Step};
 use std::error::Error;
 use std::fmt;
 
-/// A scenario: where it starts and what is done.
+/// A scenario: one case or several.
 #[derive(Clone, Debug, PartialEq, Eq)]
 pub struct Scenario {
-    /// The image to start from.
-    pub image: ImageName,
-    /// The line of the `image` statement.
-    pub image_line: usize,
-    /// The bytes stored before the start, in the order of the file.
-    pub sets: Vec<(Place, u8)>,
+    /// The cases, in the order of the file.
+    pub cases: Vec<Case>,
+    /// What is read as it stands and may be meant otherwise.
+    pub warnings: Vec<ScenarioError>,
+}
+
+/// A case: where it starts, what is done and what is expected.
+#[derive(Clone, Debug, PartialEq, Eq)]
+pub struct Case {
+    /// Its title, none where the file has no `case`.
+    pub title: Option<String>,
+    /// The line of its title, or that of its image.
+    pub line: usize,
+    /// The image to start from, and the line of its statement.
+    pub image: (ImageName, usize),
+    /// The bits stored before the start, in the order of the file.
+    pub sets: Vec<SetLine>,
     /// The channel list.
     pub channels: Vec<Channel>,
+    /// The lines of its records.
+    pub channel_lines: Vec<usize>,
+    /// Names of one's own.
+    pub names: Names,
     /// The steps.
     pub steps: Vec<StepLine>,
+    /// Calls and expectations, in the order of the file.
+    pub asks: Vec<Ask>,
+}
+
+/// Bits that are stored before the start.
+#[derive(Clone, Copy, Debug, PartialEq, Eq)]
+pub struct SetLine {
+    /// The byte of the image.
+    pub place: Place,
+    /// What is stored there.
+    pub bits: Bits,
+    /// Its line, from 1.
+    pub line: usize,
 }
 
 /// A step and the line it stands in.
@@ -29,6 +61,26 @@ pub struct StepLine {
     pub operation: Operation,
     /// Its line, from 1.
     pub line: u32,
+}
+
+/// A call, or what the step or the call before is expected to give.
+#[derive(Clone, Debug, PartialEq, Eq)]
+pub struct Ask {
+    /// The steps of the case before it.
+    pub after: usize,
+    /// Its line, from 1.
+    pub line: u32,
+    /// Which it is.
+    pub what: Asked,
+}
+
+/// What is asked.
+#[derive(Clone, Debug, PartialEq, Eq)]
+pub enum Asked {
+    /// A call.
+    Call(Call),
+    /// An expectation.
+    Expect(Expect),
 }
 
 /// What is wrong with a scenario, and where.
@@ -62,71 +114,220 @@ impl Scenario {
         // Some editors put a byte order mark before the first line.
         let text = text.strip_prefix(b"\xEF\xBB\xBF").unwrap_or(text);
         let text = text.strip_suffix(b"\n").unwrap_or(text);
-        let mut scenario: Option<Scenario> = None;
+        let mut reading = Reading::default();
         let mut last = 1;
         for (position, content) in text.split(|byte| *byte == b'\n').enumerate() {
             tell(position);
             last = position + 1;
             let wrong = |problem| ScenarioError { line: last, problem };
-            let Some(statement) = parse::statement(content).map_err(wrong)? else {
+            let names = &reading.current.names;
+            let Some(statement) = parse::statement(content, names).map_err(wrong)? else {
                 continue;
             };
-            match &mut scenario {
-                Some(scenario) => scenario.add(statement, last).map_err(wrong)?,
-                None => scenario = Some(Scenario::starting(statement, last).map_err(wrong)?),
-            }
+            let doubt = doubt::of(content, &statement, reading.current.steps.last());
+            reading.add(statement, last)?;
+            reading.doubt(doubt, last);
         }
-        scenario.ok_or(ScenarioError {
-            line: last,
-            problem: "the file has no statement: expected image zero or image FILE first".into(),
-        })
+        reading.finish(last)
+    }
+}
+
+/// What is read of a file so far.
+#[derive(Default)]
+struct Reading {
+    /// What stands before the first `case`.
+    common: Option<Draft>,
+    current: Draft,
+    cases: Vec<Case>,
+    warnings: Vec<ScenarioError>,
+}
+
+/// A case that is being read.
+#[derive(Clone, Default)]
+struct Draft {
+    title: Option<(String, usize)>,
+    image: Option<(ImageName, usize)>,
+    /// Whether the image is that of the common part.
+    inherited: bool,
+    sets: Vec<SetLine>,
+    /// Warnings about bytes that matter only if they are an IDCR.
+    doubts: Vec<(Place, ScenarioError)>,
+    channels: Vec<(Channel, usize)>,
+    names: Names,
+    steps: Vec<StepLine>,
+    asks: Vec<Ask>,
+}
+
+impl Reading {
+    fn add(&mut self, statement: Statement, line: usize) -> Result<(), ScenarioError> {
+        let Statement::Case(title) = statement else {
+            return self
+                .current
+                .add(statement, line)
+                .map_err(|problem| ScenarioError { line, problem });
+        };
+        match &self.common {
+            Some(_) => self.close(line)?,
+            None => self.open(line)?,
+        }
+        let common = self.common.clone().unwrap_or_default();
+        let inherited = common.image.is_some();
+        self.current = Draft { title: Some((title, line)), inherited, ..common };
+        Ok(())
     }
 
-    fn starting(statement: Statement, line: usize) -> Result<Scenario, String> {
-        match statement {
-            Statement::Image(image) => Ok(Scenario {
-                image,
-                image_line: line,
-                sets: Vec::new(),
-                channels: Vec::new(),
-                steps: Vec::new(),
-            }),
-            other => {
-                Err(format!("'{other}' before the image: expected image zero or image FILE first"))
+    /// What stands before the first case is common to all; it has no steps of its own.
+    fn open(&mut self, line: usize) -> Result<(), ScenarioError> {
+        if self.current.has_started() {
+            let problem = "a case after steps that belong to none: expected image, set, channel and name alone before the first case".into();
+            return Err(ScenarioError { line, problem });
+        }
+        self.common = Some(std::mem::take(&mut self.current));
+        Ok(())
+    }
+
+    fn close(&mut self, last: usize) -> Result<(), ScenarioError> {
+        let mut draft = std::mem::take(&mut self.current);
+        let doubts = std::mem::take(&mut draft.doubts);
+        let case = draft.close(last)?;
+        // A warning of the common part is told once.
+        for (place, doubt) in doubts {
+            let idcr = matches!(place.role(&case.channels), Role::Idcr(_));
+            if idcr && !self.warnings.contains(&doubt) {
+                self.warnings.push(doubt);
             }
         }
+        self.cases.push(case);
+        Ok(())
+    }
+
+    /// Takes a warning; of a byte of a page from 1 on the channel list decides.
+    fn doubt(&mut self, doubt: Option<Doubt>, line: usize) {
+        match doubt {
+            Some(Doubt { byte, place: None }) => {
+                self.warnings.push(ScenarioError { line, problem: doubt::problem(byte) });
+            }
+            Some(Doubt { byte, place: Some(place) }) => {
+                let doubt = ScenarioError { line, problem: doubt::problem(byte) };
+                self.current.doubts.push((place, doubt));
+            }
+            None => {}
+        }
+    }
+
+    fn finish(mut self, last: usize) -> Result<Scenario, ScenarioError> {
+        self.close(last)?;
+        Ok(Scenario { cases: self.cases, warnings: self.warnings })
+    }
+}
+
+const IMAGE: &str = "image zero or image FILE before the first step";
+
+impl Draft {
+    fn has_started(&self) -> bool {
+        !self.steps.is_empty() || !self.asks.is_empty()
     }
 
     fn add(&mut self, statement: Statement, line: usize) -> Result<(), String> {
-        let started = !self.steps.is_empty();
+        let number = u32::try_from(line).unwrap_or(u32::MAX);
         match statement {
-            Statement::Image(_) => {
-                Err(format!("a second image: expected one, that of line {}", self.image_line))
-            }
-            Statement::Set { .. } | Statement::Channel(_) if started => Err(format!(
-                "'{statement}' after a step: expected set and channel before the first step"
-            )),
-            Statement::Set { place, value } => {
-                self.sets.push((place, value));
-                Ok(())
-            }
-            Statement::Channel(channel) => {
-                self.channels.push(channel);
-                Ok(())
-            }
             Statement::Step(operation) => {
-                let line = u32::try_from(line).unwrap_or(u32::MAX);
-                self.steps.push(StepLine { operation, line });
-                Ok(())
+                self.need_image()?;
+                self.steps.push(StepLine { operation, line: number });
             }
+            Statement::Call(call) => {
+                self.need_image()?;
+                let after = self.steps.len();
+                self.asks.push(Ask { after, line: number, what: Asked::Call(call) });
+            }
+            Statement::Expect(_) if !self.has_started() => {
+                return Err(format!(
+                    "'{statement}' before a step: expected a step, run, wait, bound or view before it"
+                ))
+            }
+            Statement::Expect(expect) => {
+                let after = self.steps.len();
+                self.asks.push(Ask { after, line: number, what: Asked::Expect(expect) });
+            }
+            other if self.has_started() => {
+                return Err(format!(
+                    "'{other}' after a step: expected image, set, channel and name before the first step"
+                ))
+            }
+            other => return self.add_before_steps(other, line),
+        }
+        Ok(())
+    }
+
+    fn need_image(&self) -> Result<(), String> {
+        match self.image {
+            Some(_) => Ok(()),
+            None => Err(format!("a step without an image: expected {IMAGE}")),
         }
     }
 
-    /// Stores the `set` bytes. A byte beyond the image's end is passed over: such an image is refused for its length.
-    pub fn store(&self, image: &mut [u8]) {
-        for (place, value) in &self.sets {
-            if let Some(byte) = image.get_mut(place.0) {
-                *byte = *value;
+    fn add_before_steps(&mut self, statement: Statement, line: usize) -> Result<(), String> {
+        match statement {
+            Statement::Image(image) => {
+                if let (Some((_, before)), false) = (&self.image, self.inherited) {
+                    return Err(format!("a second image: expected one, that of line {before}"));
+                }
+                self.image = Some((image, line));
+                self.inherited = false;
+            }
+            Statement::Set { place, bits } => self.sets.push(SetLine { place, bits, line }),
+            Statement::Channel(channel) => self.channels.push((channel, line)),
+            Statement::Name(name, source) => return self.names.give(&name, source),
+            // `Reading` and `add` have taken the others.
+            _ => {}
+        }
+        Ok(())
+    }
+
+    /// The case; a missing image is told at its title, or where the file ends.
+    fn close(self, last: usize) -> Result<Case, ScenarioError> {
+        let Some(image) = self.image else {
+            let line = self.title.map_or(last, |(_, line)| line);
+            let problem = format!("no image: expected {IMAGE}");
+            return Err(ScenarioError { line, problem });
+        };
+        let (channels, channel_lines): (Vec<_>, Vec<_>) = self.channels.into_iter().unzip();
+        let stored = self.asks.iter().filter_map(|ask| match ask.what.expected() {
+            Some(Expected::Stored { place, bits }) => Some((*place, *bits, ask.line as usize)),
+            _ => None,
+        });
+        let sets = self.sets.iter().map(|set| (set.place, set.bits, set.line));
+        for (place, bits, line) in sets.chain(stored) {
+            let fields = bits.mask != 0xFF && place.role(&[]) == Role::Plain;
+            if fields && !matches!(place.role(&channels), Role::Idcr(_)) {
+                let problem =
+                    format!("{} is no record's IDCR: expected a byte there", place.written());
+                return Err(ScenarioError { line, problem });
+            }
+        }
+        let line = self.title.as_ref().map_or(image.1, |(_, line)| *line);
+        Ok(Case {
+            title: self.title.map(|(title, _)| title),
+            line,
+            image,
+            sets: self.sets,
+            channels,
+            channel_lines,
+            names: self.names,
+            steps: self.steps,
+            asks: self.asks,
+        })
+    }
+}
+
+impl Case {
+    /// Stores the `set` bits, and tells the byte that each left. One beyond the image's end is passed over: such an image
+    /// is refused for its length.
+    pub fn store(&self, image: &mut [u8], mut tell: impl FnMut(&SetLine, u8)) {
+        for set in &self.sets {
+            if let Some(byte) = image.get_mut(set.place.0) {
+                *byte = set.bits.stored_in(*byte);
+                tell(set, *byte);
             }
         }
     }
@@ -135,5 +336,56 @@ impl Scenario {
     pub fn words(&self) -> Vec<u64> {
         let word = |line: &StepLine| line.operation.step.word();
         self.steps.iter().map(word).collect()
+    }
+
+    /// The line of a step, 0 where there is none.
+    pub fn line_of(&self, index: usize) -> u32 {
+        self.steps.get(index).map_or(0, |step| step.line)
+    }
+
+    /// The step of a line.
+    pub(crate) fn step_of_line(&self, line: u32) -> Option<&StepLine> {
+        let index = self.steps.binary_search_by_key(&line, |step| step.line).ok()?;
+        self.steps.get(index)
+    }
+
+    /// The step that is arbitration number `count`, from 1, of the steps from one on.
+    pub fn arbitration(&self, from: usize, count: u64) -> Option<usize> {
+        let count = usize::try_from(count).ok()?.checked_sub(1)?;
+        let arbitrates =
+            |step: &StepLine| Step::of_word(step.operation.step.word()) == Step::Arbitrate;
+        let steps = self.steps.iter().enumerate().skip(from);
+        steps.filter(|(_, step)| arbitrates(step)).map(|(index, _)| index).nth(count)
+    }
+
+    /// How many expectations it has.
+    pub fn expectations(&self) -> usize {
+        let expects = |ask: &&Ask| matches!(ask.what, Asked::Expect(_));
+        self.asks.iter().filter(expects).count()
+    }
+}
+
+impl Asked {
+    fn expected(&self) -> Option<&Expected> {
+        match self {
+            Asked::Expect(Expect { what, .. }) => Some(what),
+            Asked::Call(_) => None,
+        }
+    }
+
+    /// The number of the refusal that is expected.
+    pub(crate) fn refusal(&self) -> Option<u8> {
+        match self.expected()? {
+            Expected::Refused { number, .. } => Some(*number),
+            _ => None,
+        }
+    }
+
+    /// Whether it says, and rightly, which pending bits a step erased: by name, or with all the bytes that changed.
+    pub(crate) fn tells_erased(&self, came: Came) -> bool {
+        match self.expected() {
+            Some(what @ (Expected::Erased(_) | Expected::Changed(_))) => what.is_met(came),
+            _ => false,
+        }
     }
 }

@@ -1,36 +1,79 @@
 //! Files that the command reads.
 
-use crate::output::Failure;
+use crate::output::{complain, Failure};
 use crate::progress::Progress;
-use scenario::{ImageName, Scenario};
+use scenario::{printable, Case, ImageName, Scenario, Stored};
 use std::ffi::OsStr;
 use std::fs::File;
 use std::io::{self, Read};
+use std::os::unix::ffi::OsStrExt;
 use std::path::Path;
 
 const LARGEST_SCENARIO: u64 = 1 << 30;
 const LARGEST_IMAGE: u64 = 1 << 24;
 
-/// A scenario and the image that it starts from, with the `set` bytes stored.
-pub fn scenario(file: &OsStr) -> Result<(Scenario, Vec<u8>), Failure> {
-    let shown = Path::new(file).display();
+/// The most warnings that are told of one file.
+const MOST_WARNINGS: usize = 10;
+
+/// A scenario's cases with the images that they start from.
+pub struct Loaded {
+    /// The file's name as messages have it.
+    pub file: String,
+    pub cases: Vec<Start>,
+}
+
+/// A case and where it starts.
+pub struct Start {
+    pub case: Case,
+    /// The image, the `set` bits stored.
+    pub image: Vec<u8>,
+    /// The byte that each `set` left, with its line.
+    pub sets: Vec<(usize, Stored)>,
+}
+
+/// A scenario with all its images, so that a file that is missing is found before anything is run.
+pub fn scenario(file: &OsStr) -> Result<Loaded, Failure> {
+    let shown = printable(file.as_bytes());
     let text = named(file, LARGEST_SCENARIO)
         .map_err(|error| Failure(format!("st9: {shown}: {error}: expected a scenario file")))?;
     let scenario = parsed(&text).map_err(|error| Failure(format!("{shown}:{error}")))?;
-    let mut image = match &scenario.image {
-        ImageName::Zero => vec![0; st9::IMAGE_LENGTH],
-        ImageName::File(name) => {
-            let folder = Path::new(file).parent().unwrap_or(Path::new(""));
-            stored(&folder.join(name), LARGEST_IMAGE).map_err(|error| {
-                let (line, name) = (scenario.image_line, name.escape_debug());
-                Failure(format!(
-                    "{shown}:{line}: image {name}: {error}: expected a file of 1,265 bytes"
-                ))
-            })?
+    let folder = Path::new(file).parent().unwrap_or(Path::new(""));
+    let mut cases = Vec::with_capacity(scenario.cases.len());
+    for case in scenario.cases {
+        let mut image = made(&case, folder).map_err(|error| {
+            let (image, line) = &case.image;
+            let image = printable(image.to_string().as_bytes());
+            Failure(format!(
+                "{shown}:{line}: image {image}: {error}: expected a file of 1,265 bytes"
+            ))
+        })?;
+        let mut sets = Vec::new();
+        case.store(&mut image, |set, byte| {
+            sets.push((set.line, Stored { place: set.place, byte }));
+        });
+        cases.push(Start { case, image, sets });
+    }
+    for warning in scenario.warnings.iter().take(MOST_WARNINGS) {
+        complain(&format!("{shown}:{}: warning: {}", warning.line, warning.problem));
+    }
+    if let more @ 1.. = scenario.warnings.len().saturating_sub(MOST_WARNINGS) {
+        complain(&format!(
+            "{shown}: and {more} more {}",
+            if more == 1 { "warning" } else { "warnings" }
+        ));
+    }
+    Ok(Loaded { file: shown, cases })
+}
+
+/// The image of a case, before its `set` bits are stored.
+fn made(case: &Case, folder: &Path) -> io::Result<Vec<u8>> {
+    match &case.image.0 {
+        ImageName::Fill { byte, length } => Ok(vec![*byte; *length]),
+        ImageName::Counted { length } => {
+            Ok((0..*length).map(|index| (index % 251) as u8).collect())
         }
-    };
-    scenario.store(&mut image);
-    Ok((scenario, image))
+        ImageName::File(name) => stored(&folder.join(name), LARGEST_IMAGE),
+    }
 }
 
 fn parsed(text: &[u8]) -> Result<Scenario, scenario::ScenarioError> {
@@ -42,7 +85,7 @@ fn parsed(text: &[u8]) -> Result<Scenario, scenario::ScenarioError> {
 /// The bytes of an image file, or of standard input where it is `-`.
 pub fn image(file: &OsStr) -> Result<Vec<u8>, Failure> {
     named(file, LARGEST_IMAGE).map_err(|error| {
-        let shown = Path::new(file).display();
+        let shown = printable(file.as_bytes());
         Failure(format!("st9: {shown}: {error}: expected an image file"))
     })
 }

@@ -1,5 +1,6 @@
 //! Objects of JSON, a line each.
 
+use crate::names::Names;
 use crate::Place;
 use st9::{Channel, Refusal, Source};
 use std::fmt::Write;
@@ -75,9 +76,13 @@ impl Object {
         self.text("name", &place.name(channels)).optional("register", number).optional("page", page)
     }
 
-    /// Adds a source: its number and name.
-    pub fn source(self, source: Source) -> Object {
-        self.number("source", source.0.into()).text("name", &source.to_string())
+    /// Adds a source: its number and name, and its own name where it has one.
+    pub fn source(self, source: Source, names: &Names) -> Object {
+        let object = self.number("source", source.0.into()).text("name", &source.to_string());
+        match names.of(source) {
+            Some(own) => object.text("called", own),
+            None => object,
+        }
     }
 
     /// Adds a refusal: its number and document 01's words.

@@ -1,28 +1,48 @@
-//! Scenarios of the command `st9`: their statements, the names of registers and bits, and answers in words.
+//! Scenarios of the command `st9`: their statements, cases followed and compared with what they expect, the names of
+//! registers and bits, and answers in words.
 //!
-//! Nothing here calls the model: the binary does, and passes what it answers.
+//! A case is followed on any [`Model`]: the command passes the proved one.
 
 #![forbid(unsafe_code)]
 #![deny(missing_docs)]
 
+mod account;
 mod answers;
+mod calls;
 mod changes;
+mod doubt;
+mod expect;
+mod expectation;
 mod fields;
 mod file;
+mod follow;
 mod json;
 mod names;
+mod notes;
 mod number;
 mod parse;
+mod pending;
+mod quote;
 mod statement;
 mod stored;
+mod why;
 
-pub use answers::{bound_words, counted, place_of_step, refused, Before, Report};
+pub use account::{Account, Loss, Row};
+pub use answers::{bound_explained, bound_words, counted, refused, Report};
+pub use calls::{
+    bound_json, refused_json, waited_json, waited_words, CallAnswer, CallReport, Made, Model,
+};
 pub use changes::{changes, Change};
-pub use fields::Field;
-pub use file::{Scenario, ScenarioError, StepLine};
+pub use expectation::{Expect, Expected};
+pub use fields::{Bits, Field};
+pub use file::{Ask, Asked, Case, Scenario, ScenarioError, SetLine, StepLine};
+pub use follow::{follow, Comparison, End, Event, Followed};
 pub use json::Object;
-pub use names::{named_registers, source, Place, Role};
+pub use names::{named_registers, Names, Place, Role};
+pub use notes::note;
 pub use number::{hex, number, number_32};
 pub use parse::statement;
-pub use statement::{ImageName, Operation, Statement};
+pub use pending::{Bit, Pending};
+pub use quote::{printable, quoted};
+pub use statement::{Call, ImageName, Operation, Statement};
 pub use stored::Stored;

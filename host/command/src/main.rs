@@ -1,19 +1,24 @@
-//! The command `st9`: runs scenarios, reports waits, shows images.
+//! The command `st9`: runs scenarios, tests cases, reports waits, shows images.
 
 #![forbid(unsafe_code)]
 
 mod arguments;
+mod counts;
 mod help;
 mod input;
+mod options;
 mod output;
+mod print;
 mod progress;
+mod proved;
 mod run;
+mod save;
 mod show;
+mod test;
 mod wait;
 
 use arguments::Command;
-use output::{Failure, Outcome, Output};
-use std::io::Write;
+use output::{complain, Failure, Outcome, Output};
 use std::process::ExitCode;
 
 fn main() -> ExitCode {
@@ -22,11 +27,9 @@ fn main() -> ExitCode {
     let done = arguments::command(&arguments).and_then(|command| perform(&command, &mut output));
     let done = output.finish().and(done);
     match done {
-        Ok(Outcome::Done) => ExitCode::SUCCESS,
-        Ok(Outcome::Refused) => ExitCode::from(1),
+        Ok(outcome) => ExitCode::from(outcome.code()),
         Err(Failure(message)) => {
-            // Where standard error is closed too, the exit code alone tells.
-            let _ = writeln!(std::io::stderr(), "{}", message.trim_end());
+            complain(&message);
             ExitCode::from(2)
         }
     }
@@ -39,6 +42,7 @@ fn perform(command: &Command, output: &mut Output) -> Result<Outcome, Failure> {
             Ok(Outcome::Done)
         }
         Command::Run(options) => run::run(options, output),
+        Command::Test(options) => test::test(options, output),
         Command::Wait(options) => wait::wait(options, output),
         Command::Show(options) => show::show(options, output),
     }

@@ -1,5 +1,6 @@
 //! The names of registers and sources, and the bytes of an image that they have.
 
+use crate::fields::is_field;
 use crate::number::number_32;
 use st9::{register, Channel, Source};
 
@@ -54,7 +55,7 @@ fn record_digits(word: &[u8]) -> Option<&[u8]> {
 }
 
 /// A source by name (`INTB0`, `CH0`, `channel 0`) or by number.
-pub fn source(word: &[u8]) -> Option<Source> {
+pub(crate) fn source(word: &[u8]) -> Option<Source> {
     if let Some(pin) = pin_named(word) {
         return Some(Source(pin));
     }
@@ -62,6 +63,74 @@ pub fn source(word: &[u8]) -> Option<Source> {
         Some(digits) => number_32(digits)?.checked_add(8).map(Source),
         None => number_32(word).map(Source),
     }
+}
+
+/// The longest name of one's own.
+const LONGEST: usize = 32;
+
+/// The words of statements and expectations, which are no names of one's own.
+const RESERVED: &str = "above acknowledged after and answer arbitrate arbitration arbitrations as at block bound by \
+    byte bytes case changed channel counted dapr data dcpr direction disabled dma done edge enabled \
+    ended erased expect fails falling fill has idcr if image in interrupts ip is ivr last latest \
+    level list mark masked merged mode moved name nested never nmi no none not nothing of one other \
+    out page pending premise priority raised read refused request reset return returned rising run \
+    selected service set source step steps the tlip top trigger vector view wait watchdog with \
+    write written zero";
+
+/// Names of one's own for sources, printed beside them.
+#[derive(Clone, Debug, Default, PartialEq, Eq)]
+pub struct Names(Vec<(String, Source)>);
+
+impl Names {
+    /// The source of a word: a name of one's own, `INTB0`, `CH0`, `channel 0` or a number.
+    pub fn source(&self, word: &[u8]) -> Option<Source> {
+        self.own(word).or_else(|| source(word))
+    }
+
+    /// The source of a name of one's own.
+    pub(crate) fn own(&self, word: &[u8]) -> Option<Source> {
+        let mut named = self.0.iter();
+        let found = named.find(|(name, _)| name.as_bytes().eq_ignore_ascii_case(word))?;
+        Some(found.1)
+    }
+
+    /// The own name of a source.
+    pub fn of(&self, source: Source) -> Option<&str> {
+        let found = self.0.iter().find(|(_, named)| *named == source)?;
+        Some(&found.0)
+    }
+
+    /// `INTC0`, or with its own name `INTC0 (FAN)`.
+    pub fn told(&self, source: Source) -> String {
+        match self.of(source) {
+            Some(name) => format!("{source} ({name})"),
+            None => source.to_string(),
+        }
+    }
+
+    /// Gives a source a name that it may have.
+    pub(crate) fn give(&mut self, name: &str, source: Source) -> Result<(), String> {
+        if let Some(other) = self.own(name.as_bytes()) {
+            return Err(format!("{name} is {other} already: expected another name"));
+        }
+        if let Some(other) = self.of(source) {
+            return Err(format!("{source} is called {other} already: expected one name"));
+        }
+        self.0.push((name.to_string(), source));
+        Ok(())
+    }
+}
+
+/// Whether a word may be a name of one's own: letters, digits, `_` and `-`, a letter first, and nothing else by it.
+pub(crate) fn may_be_name(word: &[u8]) -> bool {
+    let letter = word.first().is_some_and(u8::is_ascii_alphabetic);
+    let plain = word.iter().all(|byte| byte.is_ascii_alphanumeric() || b"_-".contains(byte));
+    let digits = |rest: &[u8]| rest.iter().all(u8::is_ascii_digit);
+    let register = matches!(word, [b'r' | b'R', rest @ ..] if digits(rest));
+    let reserved = RESERVED.split(' ').any(|known| known.as_bytes().eq_ignore_ascii_case(word));
+    let named = register_named(word).is_some() || source(word).is_some() || is_field(word);
+    let taken = register || reserved || named;
+    letter && plain && word.len() <= LONGEST && !taken
 }
 
 /// A byte of an image.
@@ -188,6 +257,24 @@ mod tests {
         for (place, title) in expected {
             assert_eq!(place.title(&[CHANNEL]), title);
         }
+    }
+
+    #[test]
+    fn own_names() {
+        for good in ["FAN", "over-temperature", "A_1", "INTE0", "rx"] {
+            assert!(may_be_name(good.as_bytes()), "{good}");
+        }
+        for bad in ["", "1A", "CICR", "INTB0", "ch3", "BADh", "R16", "Erased", "a.b", "é", "TLIP"]
+        {
+            assert!(!may_be_name(bad.as_bytes()), "{bad}");
+        }
+        let mut names = Names::default();
+        assert_eq!(names.give("FAN", Source::INTC0), Ok(()));
+        assert_eq!(names.source(b"fan"), Some(Source::INTC0));
+        assert_eq!(names.told(Source::INTC0), "INTC0 (FAN)");
+        assert_eq!(names.told(Source::INTB0), "INTB0");
+        assert!(names.give("Fan", Source::INTB0).is_err());
+        assert!(names.give("AIR", Source::INTC0).is_err());
     }
 
     #[test]

@@ -2,13 +2,28 @@
 
 use std::io::{self, BufWriter, ErrorKind, StdoutLock, Write};
 
-/// How a command ended that could be carried out.
-#[derive(Clone, Copy, Debug, PartialEq, Eq)]
+/// How a command ended that could be carried out. The worse of two is the greater.
+#[derive(Clone, Copy, Debug, PartialEq, Eq, PartialOrd, Ord)]
 pub enum Outcome {
     /// Exit code 0.
     Done,
-    /// Exit code 1.
+    /// An expectation is not met, or what an option forbids was met: exit code 3.
+    Failed,
+    /// Refused, and not expected so: exit code 1.
     Refused,
+    /// A bad file among several, told already: exit code 2.
+    BadFile,
+}
+
+impl Outcome {
+    pub fn code(self) -> u8 {
+        match self {
+            Outcome::Done => 0,
+            Outcome::Refused => 1,
+            Outcome::BadFile => 2,
+            Outcome::Failed => 3,
+        }
+    }
 }
 
 /// Bad usage, a bad file or an error of reading or writing: exit code 2, with the message.
@@ -50,4 +65,9 @@ impl Output {
             _ => Ok(()),
         }
     }
+}
+
+/// A line on standard error. Where that is closed too, the exit code alone tells.
+pub fn complain(message: &str) {
+    let _ = writeln!(io::stderr(), "{}", message.trim_end());
 }

@@ -1,28 +1,39 @@
 //! One line of a scenario.
 
-use crate::names::{pin_named, record, register_named, Place};
+use crate::expect;
+use crate::fields::Bits;
+use crate::names::{may_be_name, pin_named, record, register_named, Names, Place};
 use crate::number::{number, number_32};
-use crate::statement::{ImageName, Operation, Statement};
-use st9::{Channel, Edge, Step};
+use crate::quote::{printable, quoted_start};
+use crate::statement::{Call, ImageName, Operation, Statement};
+use st9::{Channel, Edge, Source, Step};
 
 /// What is wrong with a line and what was expected.
-type Problem = String;
+pub(crate) type Problem = String;
 
-const STATEMENTS: &str = "image, set, channel, read, write, edge, watchdog, nmi, request, arbitrate, return, reset or step";
+const STATEMENTS: &str = "image, set, channel, name, case, a step (read, write, edge, watchdog, nmi, request, arbitrate, return, reset, step), \
+                          run, wait, bound, view or expect";
 const REGISTER: &str = "a register as EIPR, R243 or 243, without a page: PPR selects it";
-const BYTE: &str = "a byte as 97h, 0x97 or 151, at most FFh";
+pub(crate) const BYTE: &str = "a byte as 97h, 0x97 or 151, at most FFh";
 const NUMBER: &str = "a number as 97h, 0x97 or 151";
-const PIN: &str = "a pin as INTB0 or 2";
+const PIN: &str = "a pin as INTB0 or 2, or a name of your own";
+const RECORD: &str = "a record as 0 or CH0, or a name of your own";
 const DIRECTION: &str = "falling, rising or a number";
 const PLACE: &str = "R0 to R239, a name as EIPR, R240.p9 or MARK";
 const CHANNEL: &str = "page=, idcr=, ivr=, dcpr=, dapr=, data=, and in or out";
+const SOURCE: &str = "a source as INTB1 or CH0, a name of your own or a number";
+const NAME: &str =
+    "a name of letters, digits, _ and -, a letter first, that is no word of the language";
 
-/// The longest statement: `channel` and its seven fields.
+/// The longest statement of words alone: `channel` and its seven fields.
 const MOST_WORDS: usize = 8;
 
+/// The longest image that is made without a file.
+const LONGEST_IMAGE: u64 = 1 << 20;
+
 /// The statement of a line; none where it is blank or a comment. The line has no line feed; a carriage return at its
-/// end is passed over.
-pub fn statement(line: &[u8]) -> Result<Option<Statement>, Problem> {
+/// end is passed over. Names of one's own are those given before.
+pub fn statement(line: &[u8], names: &Names) -> Result<Option<Statement>, Problem> {
     let line = line.strip_suffix(b"\r").unwrap_or(line);
     if line.contains(&b'\r') {
         return Err("a carriage return inside a line: expected lines ended by LF or CRLF".into());
@@ -31,27 +42,29 @@ pub fn statement(line: &[u8]) -> Result<Option<Statement>, Problem> {
     let Some(first) = words(code).next() else {
         return Ok(None);
     };
-    if first.eq_ignore_ascii_case(b"image") {
-        return image(code[first.len()..].trim_ascii()).map(Some);
-    }
-    let mut arguments = [&b""[..]; MOST_WORDS];
-    let mut count = 0;
-    for word in words(code).skip(1) {
-        if count == MOST_WORDS {
-            return Err(expected("the end of the line", word));
-        }
-        arguments[count] = word;
-        count += 1;
-    }
-    of_words(first, &arguments[..count]).map(Some)
+    let rest = code[first.len()..].trim_ascii();
+    let mut lower = [0; 16];
+    let Some(keyword) = lower.get_mut(..first.len()) else {
+        return Err(expected(STATEMENTS, first));
+    };
+    keyword.copy_from_slice(first);
+    keyword.make_ascii_lowercase();
+    let statement = match &*keyword {
+        b"image" => image(rest)?,
+        b"case" if rest.is_empty() => return Err("the case has no title: expected one".into()),
+        b"case" => Statement::Case(printable(rest)),
+        b"expect" => Statement::Expect(expect::expect(rest, names)?),
+        _ => of_words(keyword, first, rest, names)?,
+    };
+    Ok(Some(statement))
 }
 
-fn words(code: &[u8]) -> impl Iterator<Item = &[u8]> {
+pub(crate) fn words(code: &[u8]) -> impl Iterator<Item = &[u8]> {
     code.split(u8::is_ascii_whitespace).filter(|word| !word.is_empty())
 }
 
 /// The line up to its comment. A `#` between double quotes, which only a file's name has, starts none.
-fn without_comment(line: &[u8]) -> &[u8] {
+pub(crate) fn without_comment(line: &[u8]) -> &[u8] {
     let mut quoted = false;
     for (position, byte) in line.iter().enumerate() {
         match byte {
@@ -63,18 +76,31 @@ fn without_comment(line: &[u8]) -> &[u8] {
     line
 }
 
-fn of_words(first: &[u8], arguments: &[&[u8]]) -> Result<Statement, Problem> {
-    let mut lower = [0; 16];
-    let Some(keyword) = lower.get_mut(..first.len()) else {
-        return Err(expected(STATEMENTS, first));
-    };
-    keyword.copy_from_slice(first);
-    keyword.make_ascii_lowercase();
-    let mut arguments = Arguments(arguments);
-    let statement = match &*keyword {
-        b"set" => set(&mut arguments)?,
+fn of_words(
+    keyword: &[u8],
+    first: &[u8],
+    rest: &[u8],
+    names: &Names,
+) -> Result<Statement, Problem> {
+    let mut arguments = [&b""[..]; MOST_WORDS];
+    let mut count = 0;
+    for word in words(rest) {
+        if count == MOST_WORDS {
+            return Err(expected("the end of the line", word));
+        }
+        arguments[count] = word;
+        count += 1;
+    }
+    let mut arguments = Arguments(&arguments[..count]);
+    let statement = match keyword {
+        b"set" => set(&mut arguments, names)?,
         b"channel" => channel(&mut arguments)?,
-        _ => Statement::Step(operation(keyword, first, &mut arguments)?),
+        b"name" => name(&mut arguments)?,
+        b"run" => Statement::Call(Call::Run),
+        b"wait" => Statement::Call(Call::Wait(source(&mut arguments, names)?)),
+        b"bound" => Statement::Call(Call::Bound(source(&mut arguments, names)?)),
+        b"view" => Statement::Call(Call::View(arguments.take("a page's number", number_32)?)),
+        _ => Statement::Step(operation(keyword, first, &mut arguments, names)?),
     };
     arguments.end()?;
     Ok(statement)
@@ -84,6 +110,7 @@ fn operation(
     keyword: &[u8],
     first: &[u8],
     arguments: &mut Arguments,
+    names: &Names,
 ) -> Result<Operation, Problem> {
     let mut named = false;
     let step = match keyword {
@@ -99,11 +126,11 @@ fn operation(
             Step::Write { register, value }
         }
         b"edge" => Step::Pin {
-            pin: arguments.take(PIN, |word| pin_named(word).or_else(|| number_32(word)))?,
+            pin: arguments.take(PIN, |word| pin(word, names))?,
             edge: arguments.take(DIRECTION, edge)?,
         },
         b"nmi" => Step::Nmi { edge: arguments.take(DIRECTION, edge)? },
-        b"request" => Step::Request { record: arguments.take("a record as 0 or CH0", record)? },
+        b"request" => Step::Request { record: request(arguments, names)? },
         b"watchdog" => Step::Watchdog,
         b"arbitrate" => Step::Arbitrate,
         b"return" => Step::Return,
@@ -114,16 +141,81 @@ fn operation(
     Ok(Operation { step, named })
 }
 
+/// A pin by the name of its source, own names included, or by number.
+fn pin(word: &[u8], names: &Names) -> Option<u32> {
+    match names.own(word) {
+        Some(source) => (source.0 < 8).then_some(source.0),
+        None => pin_named(word).or_else(|| number_32(word)),
+    }
+}
+
+/// A record by the name of its source, own names included, or by number; `channel 0` is two words.
+fn request(arguments: &mut Arguments, names: &Names) -> Result<u32, Problem> {
+    if let [first, _] = arguments.0 {
+        if first.eq_ignore_ascii_case(b"channel") {
+            arguments.optional();
+        }
+    }
+    arguments.take(RECORD, |word| match names.own(word) {
+        Some(source) => source.0.checked_sub(8),
+        None => record(word),
+    })
+}
+
+/// A source by name or number; `channel 0` is two words.
+fn source(arguments: &mut Arguments, names: &Names) -> Result<Source, Problem> {
+    let word = arguments.next(SOURCE)?;
+    if !word.eq_ignore_ascii_case(b"channel") {
+        return names.source(word).ok_or_else(|| expected(SOURCE, word));
+    }
+    arguments.take(SOURCE, |word| number_32(word)?.checked_add(8).map(Source))
+}
+
+fn name(arguments: &mut Arguments) -> Result<Statement, Problem> {
+    let word = arguments.next(NAME)?;
+    let name = std::str::from_utf8(word).ok().filter(|_| may_be_name(word));
+    let name = name.ok_or_else(|| expected(NAME, word))?;
+    let source = source(arguments, &Names::default())?;
+    Ok(Statement::Name(name.to_string(), source))
+}
+
 fn image(name: &[u8]) -> Result<Statement, Problem> {
-    const EXPECTED: &str = "zero or a file's name (with blanks: between double quotes)";
+    const EXPECTED: &str = "zero, fill BYTE or counted, each with or without a length, or a file's name (with blanks: between double quotes)";
+    let mut made = words(name);
+    let keyword = made.next().unwrap_or_default().to_ascii_lowercase();
+    let rest = made.collect::<Vec<_>>();
+    let image = match &keyword[..] {
+        b"zero" => ImageName::Fill { byte: 0, length: length(&rest, EXPECTED)? },
+        b"counted" => ImageName::Counted { length: length(&rest, EXPECTED)? },
+        b"fill" => {
+            let (value, rest) = rest.split_first().ok_or_else(|| expected(BYTE, b""))?;
+            let byte = byte(value).ok_or_else(|| expected(BYTE, value))?;
+            ImageName::Fill { byte, length: length(rest, EXPECTED)? }
+        }
+        _ => return file(name, EXPECTED),
+    };
+    Ok(Statement::Image(image))
+}
+
+/// The length of an image that is made, 1,265 where none is said.
+fn length(words: &[&[u8]], what: &str) -> Result<usize, Problem> {
+    const LENGTH: &str = "a length of at most 1048576 bytes";
+    match words {
+        [] => Ok(st9::IMAGE_LENGTH),
+        [word] => match number(word) {
+            Some(length @ 0..=LONGEST_IMAGE) => Ok(length as usize),
+            _ => Err(expected(LENGTH, word)),
+        },
+        [_, more, ..] => Err(expected(what, more)),
+    }
+}
+
+fn file(name: &[u8], what: &str) -> Result<Statement, Problem> {
     let quoted = name.strip_prefix(b"\"").and_then(|rest| rest.strip_suffix(b"\""));
     let bare = quoted.unwrap_or(name);
     let blank = quoted.is_none() && bare.iter().any(u8::is_ascii_whitespace);
     if bare.is_empty() || bare.contains(&b'"') || blank {
-        return Err(expected(EXPECTED, name));
-    }
-    if quoted.is_none() && name.eq_ignore_ascii_case(b"zero") {
-        return Ok(Statement::Image(ImageName::Zero));
+        return Err(expected(what, name));
     }
     match std::str::from_utf8(bare) {
         Ok(bare) => Ok(Statement::Image(ImageName::File(bare.to_string()))),
@@ -131,14 +223,36 @@ fn image(name: &[u8]) -> Result<Statement, Problem> {
     }
 }
 
-fn set(arguments: &mut Arguments) -> Result<Statement, Problem> {
+fn set(arguments: &mut Arguments, names: &Names) -> Result<Statement, Problem> {
     let place = arguments.next(PLACE).and_then(place)?;
-    let value = arguments.take(BYTE, byte)?;
-    Ok(Statement::Set { place, value })
+    let bits = bits(arguments, place, names)?;
+    Ok(Statement::Set { place, bits })
+}
+
+/// A byte, or fields of one as `IEN=1 CPL=7`, each once.
+pub(crate) fn bits(
+    arguments: &mut Arguments,
+    place: Place,
+    names: &Names,
+) -> Result<Bits, Problem> {
+    let word = arguments.next(BYTE)?;
+    if !word.contains(&b'=') {
+        return byte(word).map(Bits::byte).ok_or_else(|| expected(BYTE, word));
+    }
+    let one = |word| place.bits(word, names).map_err(|what| expected(&what, word));
+    let mut all = one(word)?;
+    while let Some(word) = arguments.optional() {
+        let Bits { mask, value } = one(word)?;
+        if all.mask & mask != 0 {
+            return Err(expected("each field once", word));
+        }
+        all = Bits { mask: all.mask | mask, value: all.value | value };
+    }
+    Ok(all)
 }
 
 /// A byte of the image: MARK, or a register with a page where its number needs one and its name does not say it.
-fn place(word: &[u8]) -> Result<Place, Problem> {
+pub(crate) fn place(word: &[u8]) -> Result<Place, Problem> {
     if word.eq_ignore_ascii_case(b"mark") {
         return Ok(Place::MARK);
     }
@@ -216,7 +330,7 @@ fn field(word: &[u8], names: &[&str; 7]) -> Option<(usize, Option<u8>)> {
 }
 
 /// The number of a register, and whether it was written by name.
-fn register(word: &[u8]) -> Option<(u32, bool)> {
+pub(crate) fn register(word: &[u8]) -> Option<(u32, bool)> {
     if let Some(number) = register_named(word) {
         return Some((number.into(), true));
     }
@@ -237,30 +351,34 @@ fn edge(word: &[u8]) -> Option<Edge> {
     number_32(word).map(Edge::from)
 }
 
-fn byte(word: &[u8]) -> Option<u8> {
+pub(crate) fn byte(word: &[u8]) -> Option<u8> {
     u8::try_from(number(word)?).ok()
 }
 
 /// The words after the first, taken one after another.
-struct Arguments<'a>(&'a [&'a [u8]]);
+pub(crate) struct Arguments<'a>(pub &'a [&'a [u8]]);
 
 impl<'a> Arguments<'a> {
-    fn optional(&mut self) -> Option<&'a [u8]> {
+    pub(crate) fn optional(&mut self) -> Option<&'a [u8]> {
         let (first, rest) = self.0.split_first()?;
         self.0 = rest;
         Some(first)
     }
 
-    fn next(&mut self, what: &str) -> Result<&'a [u8], Problem> {
+    pub(crate) fn next(&mut self, what: &str) -> Result<&'a [u8], Problem> {
         self.optional().ok_or_else(|| format!("the line ends too early: expected {what}"))
     }
 
-    fn take<T>(&mut self, what: &str, read: impl Fn(&[u8]) -> Option<T>) -> Result<T, Problem> {
+    pub(crate) fn take<T>(
+        &mut self,
+        what: &str,
+        read: impl Fn(&[u8]) -> Option<T>,
+    ) -> Result<T, Problem> {
         let word = self.next(what)?;
         read(word).ok_or_else(|| expected(what, word))
     }
 
-    fn end(&mut self) -> Result<(), Problem> {
+    pub(crate) fn end(&mut self) -> Result<(), Problem> {
         match self.optional() {
             Some(word) => Err(expected("the end of the line", word)),
             None => Ok(()),
@@ -268,19 +386,8 @@ impl<'a> Arguments<'a> {
     }
 }
 
-fn expected(what: &str, found: &[u8]) -> Problem {
-    format!("{}: expected {what}", shown(found))
-}
-
-/// A word of the file for a message: printable, and cut where it is long.
-fn shown(word: &[u8]) -> String {
-    const MOST: usize = 40;
-    if word.is_empty() {
-        return "nothing".to_string();
-    }
-    let start = &word[..word.len().min(MOST)];
-    let more = if word.len() > MOST { ".." } else { "" };
-    format!("'{}'{more}", start.escape_ascii())
+pub(crate) fn expected(what: &str, found: &[u8]) -> Problem {
+    format!("{}: expected {what}", quoted_start(found))
 }
 
 #[cfg(test)]
@@ -288,7 +395,7 @@ mod tests {
     use super::*;
 
     fn said(line: &str) -> String {
-        match statement(line.as_bytes()) {
+        match statement(line.as_bytes(), &Names::default()) {
             Ok(Some(statement)) => statement.to_string(),
             Ok(None) => String::new(),
             Err(problem) => format!("error: {problem}"),
@@ -309,14 +416,28 @@ mod tests {
             ("edge 2 0", "edge INTB0 falling"),
             ("edge 9 2", "edge 9 2"),
             ("request ch1", "request 1"),
-            ("set EIMR ffh", "set EIMR.p0 FFh"),
-            ("set R243.p0 1", "set EIPR.p0 01h"),
+            ("set EIMR ffh", "set EIMR FFh"),
+            ("set R243.p0 1", "set EIPR 01h"),
             ("set r240.P9 3ah", "set R240.p9 3Ah"),
             ("set R230 97h", "set CICR 97h"),
             ("set mark 1", "set MARK 01h"),
             ("image \"zero\"", "image \"zero\""),
             ("image \"a # b\" # c", "image \"a # b\""),
             ("image ./zero", "image ./zero"),
+            ("image zero 1264", "image zero 1264"),
+            ("image ZERO 1265", "image zero"),
+            ("image fill a5h", "image fill A5h"),
+            ("image fill 0 3", "image zero 3"),
+            ("image counted 0", "image counted 0"),
+            ("set CICR cpl=7 IEN=1", "set CICR IEN=1 CPL=7"),
+            ("name Fan 4", "name Fan INTC0"),
+            ("name RX channel 0", "name RX CH0"),
+            ("case  two  words # c", "case two  words"),
+            ("wait channel 1", "wait CH1"),
+            ("BOUND intc0", "bound INTC0"),
+            ("view 3Fh", "view 63"),
+            ("run", "run"),
+            ("expect  acknowledged  INTC0 # c", "expect acknowledged INTC0"),
         ];
         for (line, canonical) in expected {
             assert_eq!(said(line), canonical, "{line}");

@@ -32,10 +32,6 @@ impl Progress {
         Progress { shown: progress.shown && !io::stdout().is_terminal(), ..progress }
     }
 
-    pub fn is_shown(&self) -> bool {
-        self.shown
-    }
-
     /// Tells that so many are done.
     pub fn at(&mut self, done: usize) {
         if self.shown && done.is_multiple_of(STRIDE) && self.last.elapsed() >= PAUSE {

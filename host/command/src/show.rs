@@ -3,7 +3,9 @@
 use crate::arguments::Show;
 use crate::input;
 use crate::output::{Failure, Outcome, Output};
-use scenario::{named_registers, refused, Object, Place, Stored};
+use scenario::{named_registers, printable, refused, Object, Place, Stored};
+use st9::Refusal;
+use std::os::unix::ffi::OsStrExt;
 
 pub fn show(options: &Show, output: &mut Output) -> Result<Outcome, Failure> {
     let image = input::image(&options.image)?;
@@ -11,14 +13,7 @@ pub fn show(options: &Show, output: &mut Output) -> Result<Outcome, Failure> {
     let page = match st9::view(&image, options.page.unwrap_or(0)) {
         Ok(page) => page,
         Err(refusal) => {
-            output.line(&match options.json {
-                true => Object::new()
-                    .text("type", "result")
-                    .text("result", "refused")
-                    .refusal(refusal)
-                    .end(),
-                false => refused(refusal),
-            });
+            print_refused(options, refusal, image.len(), output);
             return Ok(Outcome::Refused);
         }
     };
@@ -45,7 +40,23 @@ pub fn show(options: &Show, output: &mut Output) -> Result<Outcome, Failure> {
 
 fn print(stored: Stored, json: bool, output: &mut Output) {
     output.line(&match json {
-        true => stored.json(),
-        false => stored.words(),
+        true => stored.json(&[], None),
+        false => stored.words(&[]),
+    });
+}
+
+/// A refusal; beside one for its length the image's name and length.
+fn print_refused(options: &Show, refusal: Refusal, length: usize, output: &mut Output) {
+    if refusal == Refusal::ImageLength {
+        let note = format!("{} has {length} bytes", printable(options.image.as_bytes()));
+        output.line(&match options.json {
+            true => Object::new().text("type", "note").text("note", &note).end(),
+            false => format!("note: {note}"),
+        });
+    }
+    let object = || Object::new().text("type", "result").text("result", "refused").refusal(refusal);
+    output.line(&match options.json {
+        true => object().end(),
+        false => refused(refusal),
     });
 }

@@ -1,6 +1,8 @@
 //! The statements of a scenario, and each as it is written.
 
-use crate::names::{register_name, Place};
+use crate::expectation::Expect;
+use crate::fields::Bits;
+use crate::names::{register_name, Place, Role};
 use crate::number::hex;
 use st9::{Channel, Edge, Source, Step};
 use std::fmt;
@@ -10,24 +12,42 @@ use std::fmt;
 pub enum Statement {
     /// The image to start from.
     Image(ImageName),
-    /// A stored byte before the start.
+    /// Bits of a stored byte before the start.
     Set {
         /// The byte of the image.
         place: Place,
         /// What is stored there.
-        value: u8,
+        bits: Bits,
     },
     /// A record of the channel list.
     Channel(Channel),
+    /// A name of one's own for a source.
+    Name(String, Source),
+    /// The start of a case, with its title.
+    Case(String),
     /// A step.
     Step(Operation),
+    /// A call on a copy of the image, over the steps that follow.
+    Call(Call),
+    /// What the step or the call before it gives.
+    Expect(Expect),
 }
 
-/// The image that a scenario starts from.
+/// The image that a case starts from.
 #[derive(Clone, Debug, PartialEq, Eq)]
 pub enum ImageName {
-    /// 1,265 bytes of 00h.
-    Zero,
+    /// Bytes of one value.
+    Fill {
+        /// The value.
+        byte: u8,
+        /// How many.
+        length: usize,
+    },
+    /// Bytes counted from 0, modulo 251: each place has another byte than the sixteen around it and a page away.
+    Counted {
+        /// How many.
+        length: usize,
+    },
     /// The bytes of a file.
     File(String),
 }
@@ -41,35 +61,80 @@ pub struct Operation {
     pub named: bool,
 }
 
+/// A call of the model on a copy of the image. All but the view are over the steps that follow, to the end of the case.
+#[derive(Clone, Copy, Debug, PartialEq, Eq)]
+pub enum Call {
+    /// The run.
+    Run,
+    /// The wait report for a source.
+    Wait(Source),
+    /// Demand 3's bound for a source.
+    Bound(Source),
+    /// The view of a page.
+    View(u32),
+}
+
+impl ImageName {
+    /// `image zero`.
+    pub const ZERO: ImageName = ImageName::Fill { byte: 0, length: st9::IMAGE_LENGTH };
+}
+
 impl fmt::Display for Statement {
     fn fmt(&self, f: &mut fmt::Formatter<'_>) -> fmt::Result {
         match self {
-            Statement::Image(ImageName::Zero) => f.write_str("image zero"),
-            Statement::Image(ImageName::File(name)) => match needs_quotes(name) {
-                true => write!(f, "image \"{name}\""),
-                false => write!(f, "image {name}"),
-            },
-            Statement::Set { place, value } => {
-                f.write_str("set ")?;
-                write_place(f, *place)?;
-                write!(f, " {}", hex(*value))
+            Statement::Image(image) => write!(f, "image {image}"),
+            Statement::Set { place, bits } => {
+                write!(f, "set {} {}", place.written(), bits.written(*place))
             }
             Statement::Channel(channel) => write_channel(f, channel),
+            Statement::Name(name, source) => write!(f, "name {name} {}", source_word(*source)),
+            Statement::Case(title) => write!(f, "case {title}"),
             Statement::Step(operation) => operation.fmt(f),
+            Statement::Call(call) => call.fmt(f),
+            Statement::Expect(expect) => write!(f, "expect {}", expect.said),
+        }
+    }
+}
+
+impl fmt::Display for ImageName {
+    fn fmt(&self, f: &mut fmt::Formatter<'_>) -> fmt::Result {
+        let length = match self {
+            ImageName::Fill { length, .. } | ImageName::Counted { length } => *length,
+            ImageName::File(name) if needs_quotes(name) => return write!(f, "\"{name}\""),
+            ImageName::File(name) => return f.write_str(name),
+        };
+        match self {
+            ImageName::Fill { byte: 0, .. } => f.write_str("zero")?,
+            ImageName::Fill { byte, .. } => write!(f, "fill {}", hex(*byte))?,
+            _ => f.write_str("counted")?,
+        }
+        match length {
+            st9::IMAGE_LENGTH => Ok(()),
+            _ => write!(f, " {length}"),
         }
     }
 }
 
 fn needs_quotes(name: &str) -> bool {
     let special = |byte: u8| byte == b'#' || byte.is_ascii_whitespace();
-    name.eq_ignore_ascii_case("zero") || name.bytes().any(special)
+    let made = ["zero", "fill", "counted"].iter().any(|made| name.eq_ignore_ascii_case(made));
+    made || name.bytes().any(special)
 }
 
-fn write_place(f: &mut fmt::Formatter<'_>, place: Place) -> fmt::Result {
-    match place.register() {
-        Some((_, None)) => f.write_str(&place.name(&[])),
-        Some((_, Some(page))) => write!(f, "{}.p{page}", place.name(&[])),
-        None => f.write_str("MARK"),
+impl Place {
+    /// The byte as a statement writes it: `EIPR`, `R16`, `R240.p9`, `MARK`.
+    pub(crate) fn written(self) -> String {
+        match (self.role(&[]), self.register()) {
+            (Role::Plain, Some((number, Some(page)))) => format!("R{number}.p{page}"),
+            _ => self.name(&[]),
+        }
+    }
+}
+
+fn source_word(source: Source) -> String {
+    match source.0 {
+        0..=7 => source.to_string(),
+        number => format!("CH{}", number - 8),
     }
 }
 
@@ -80,6 +145,18 @@ fn write_channel(f: &mut fmt::Formatter<'_>, channel: &Channel) -> fmt::Result {
         0 => f.write_str("in"),
         1 => f.write_str("out"),
         _ => write!(f, "direction={direction}"),
+    }
+}
+
+/// As the statement of this call is written.
+impl fmt::Display for Call {
+    fn fmt(&self, f: &mut fmt::Formatter<'_>) -> fmt::Result {
+        match self {
+            Call::Run => f.write_str("run"),
+            Call::Wait(source) => write!(f, "wait {}", source_word(*source)),
+            Call::Bound(source) => write!(f, "bound {}", source_word(*source)),
+            Call::View(page) => write!(f, "view {page}"),
+        }
     }
 }
 

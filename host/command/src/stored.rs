@@ -2,6 +2,7 @@
 
 use crate::number::hex;
 use crate::{Object, Place};
+use st9::Channel;
 
 /// A byte of an image and what is stored there.
 #[derive(Clone, Copy, Debug, PartialEq, Eq)]
@@ -14,16 +15,16 @@ pub struct Stored {
 
 impl Stored {
     /// `EIPR R243 page 0   14h  INTA0 0, INTA1 0, INTB0 1, ..`.
-    pub fn words(&self) -> String {
-        let title = self.place.title(&[]);
-        let bits = self.place.role(&[]).all_bits(self.byte);
+    pub fn words(&self, channels: &[Channel]) -> String {
+        let title = self.place.title(channels);
+        let bits = self.place.role(channels).all_bits(self.byte);
         let line = format!("{title:<17}  {}  {bits}", hex(self.byte));
         line.trim_end().to_string()
     }
 
-    /// The byte as an object.
-    pub fn json(&self) -> String {
-        let fields = self.place.role(&[]).fields().iter();
+    /// The byte as an object; with the line of the `set` that stored it.
+    pub fn json(&self, channels: &[Channel], line: Option<usize>) -> String {
+        let fields = self.place.role(channels).fields().iter();
         let values = fields.map(|field| {
             Object::new()
                 .text("name", field.name)
@@ -31,9 +32,13 @@ impl Stored {
                 .end()
         });
         let values = values.collect::<Vec<_>>();
-        Object::new()
-            .text("type", "register")
-            .place(self.place, &[])
+        let object = Object::new().text("type", "register");
+        let object = match line {
+            Some(line) => object.number("line", line as u64),
+            None => object,
+        };
+        object
+            .place(self.place, channels)
             .number("byte", self.byte.into())
             .list("fields", &values)
             .end()
@@ -62,7 +67,7 @@ mod tests {
             (Place::MARK, 2, "MARK               02h  top level in service"),
         ];
         for (place, byte, words) in expected {
-            assert_eq!(Stored { place, byte }.words(), words);
+            assert_eq!(Stored { place, byte }.words(&[]), words);
         }
     }
 }

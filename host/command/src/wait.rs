@@ -1,103 +1,258 @@
 //! `st9 wait`.
 
 use crate::arguments::Wait as Options;
-use crate::input;
+use crate::input::{self, Start};
+use crate::options::{shown, usage};
 use crate::output::{Failure, Outcome, Output};
 use crate::progress::Progress;
-use crate::run::line_of;
-use scenario::{bound_words, counted, place_of_step, refused, Object, Scenario};
-use st9::{Bound, Refusal, Wait, WaitError};
+use crate::proved::Proved;
+use crate::save::Saved;
+use scenario::{
+    bound_explained, bound_json, bound_words, follow, note, refused, waited_json, waited_words,
+    Account, Bit, Case, Names, Object, Row,
+};
+use st9::{Bound, Refusal, Source, Wait, WaitError};
+use std::ffi::OsStr;
+use std::os::unix::ffi::OsStrExt;
 
 pub fn wait(options: &Options, output: &mut Output) -> Result<Outcome, Failure> {
-    let (scenario, mut image) = input::scenario(&options.file)?;
-    let words = scenario.words();
-    let source = options.source;
-    let progress = Progress::new(words.len(), "steps");
-    progress.whole("the bound over");
-    let bound = st9::bound(&image, &scenario.channels, source, &words);
-    progress.whole("the wait report over");
-    let waited = st9::wait(&mut image, &scenario.channels, source, &words);
-    drop(progress);
-    if options.json {
-        let wait = Object::new().text("type", "wait").source(source);
-        output.line(&waited_json(wait, waited, &scenario));
-        output.line(&bound_json(bound, &scenario));
-    } else {
-        let waited_words = waited_words(waited, &scenario);
-        output.line(&format!("wait for {source} (source {}): {waited_words}", source.0));
-        output.line(&format!(
-            "bound: {}",
-            match bound {
-                Ok(bound) => bound_words(bound, &scenario.steps),
-                Err(refusal) => refused(refusal),
+    let loaded = input::scenario(&options.file)?;
+    let asked = loaded.cases.iter().map(|start| asked(options, &start.case));
+    let asked = asked.collect::<Result<Vec<_>, _>>()?;
+    let saved = Saved::open(options.save.as_deref(), &loaded)?;
+    let mut outcome = Outcome::Done;
+    let mut last = Vec::new();
+    for (position, Start { case, image, .. }) in loaded.cases.iter().enumerate() {
+        title(case, position == 0, options.json, output);
+        let asked = &asked[position];
+        let reports: Vec<_> = asked.iter().map(|source| Report::of(case, image, *source)).collect();
+        match (options.json, &reports[..]) {
+            (true, reports) => print_json(case, reports, output),
+            (false, [report]) if options.source.is_some() => report.print(case, output),
+            (false, reports) => print_table(case, image, reports, output),
+        }
+        outcome = outcome.max(judged(options, case, image, &reports, output));
+        last = reports.into_iter().next().map(|report| report.image).unwrap_or_default();
+    }
+    if let Some(saved) = saved {
+        saved.write(&last)?;
+    }
+    Ok(outcome)
+}
+
+fn title(case: &Case, first: bool, json: bool, output: &mut Output) {
+    let Some(title) = &case.title else { return };
+    if json {
+        let object = Object::new().text("type", "case").number("line", case.line as u64);
+        return output.line(&object.text("case", title).end());
+    }
+    if !first {
+        output.line("");
+    }
+    output.line(&format!("case {title}"));
+}
+
+/// The source that is named, or all of a case.
+fn asked(options: &Options, case: &Case) -> Result<Vec<Source>, Failure> {
+    match &options.source {
+        Some(word) => Ok(vec![named(word, &case.names)?]),
+        None => Ok(sources(case)),
+    }
+}
+
+/// The source that a word of the command line names in a case.
+fn named(word: &OsStr, names: &Names) -> Result<Source, Failure> {
+    const EXPECTED: &str = "--source with INTB1, CH0, a name that the scenario gives, or a number";
+    let found = names.source(word.as_bytes());
+    found.ok_or_else(|| usage(&format!("{} is no source: expected {EXPECTED}", shown(word))))
+}
+
+/// All sources of a case.
+fn sources(case: &Case) -> Vec<Source> {
+    let records = case.channels.len().min(st9::MOST_CHANNELS) as u32;
+    (0..8 + records).map(Source).collect()
+}
+
+/// The wait report and the bound of a source.
+struct Report {
+    source: Source,
+    waited: Result<Wait, WaitError>,
+    bound: Result<Bound, Refusal>,
+    /// The image after the wait.
+    image: Vec<u8>,
+}
+
+impl Report {
+    fn of(case: &Case, image: &[u8], source: Source) -> Report {
+        let words = case.words();
+        let progress = Progress::new(words.len(), "steps");
+        progress.whole("the bound over");
+        let bound = st9::bound(image, &case.channels, source, &words);
+        progress.whole("the wait report over");
+        let mut image = image.to_vec();
+        let waited = st9::wait(&mut image, &case.channels, source, &words);
+        Report { source, waited, bound, image }
+    }
+
+    fn print(&self, case: &Case, output: &mut Output) {
+        let source = case.names.told(self.source);
+        let waited = self.waited_words(case);
+        output.line(&format!("wait for {source} (source {}): {waited}", self.source.0));
+        let bound = match self.bound {
+            Ok(bound) => bound_explained(bound, &case.steps, 0),
+            Err(refusal) => refused(refusal),
+        };
+        output.line(&format!("bound: {bound}"));
+        if let Some(note) = self.note(case) {
+            output.line(&format!("note: {note}"));
+        }
+    }
+
+    fn waited_words(&self, case: &Case) -> String {
+        let words = waited_words(self.waited, case, 0);
+        match self.waited {
+            Err(WaitError::Call(_)) => format!("{words}, before any step"),
+            _ => words,
+        }
+    }
+
+    fn note(&self, case: &Case) -> Option<String> {
+        match self.waited {
+            Err(WaitError::Call(refusal)) => note(refusal, case, self.image.len()),
+            _ => None,
+        }
+    }
+
+    fn print_json(&self, case: &Case, output: &mut Output) {
+        let wait = Object::new().text("type", "wait").source(self.source, &case.names);
+        output.line(&waited_json(wait, self.waited, case, 0).end());
+        let bound = Object::new().text("type", "bound").source(self.source, &case.names);
+        output.line(&bound_json(bound, self.bound, case, 0).end());
+    }
+
+    /// Whether the source was acknowledged, by arbitration `within` at the latest where that is said.
+    fn is_acknowledged(&self, within: Option<u64>) -> bool {
+        match self.waited {
+            Ok(Wait::Acknowledged { arbitrations }) => {
+                within.is_none_or(|within| arbitrations <= within)
             }
-        ));
-    }
-    match waited {
-        Ok(_) => Ok(Outcome::Done),
-        Err(_) => Ok(Outcome::Refused),
-    }
-}
-
-fn waited_words(waited: Result<Wait, WaitError>, scenario: &Scenario) -> String {
-    match waited {
-        Ok(Wait::Acknowledged { arbitrations }) => {
-            format!("acknowledged by arbitration {arbitrations}")
-        }
-        Ok(Wait::Ended { arbitrations }) => {
-            let made = counted(arbitrations, "arbitration");
-            format!("not acknowledged, the list ended after {made}")
-        }
-        Err(WaitError::Call(refusal)) => format!("{} (before any step)", refused(refusal)),
-        Err(WaitError::Step { refusal, index, arbitrations }) => {
-            let place = place_of_step(index, line_of(scenario, index));
-            let made = counted(arbitrations, "arbitration");
-            format!("{} ({place}, after {made})", refused(refusal))
+            _ => false,
         }
     }
 }
 
-fn waited_json(object: Object, waited: Result<Wait, WaitError>, scenario: &Scenario) -> String {
-    match waited {
-        Ok(Wait::Acknowledged { arbitrations }) => {
-            object.text("result", "acknowledged").number("arbitrations", arbitrations)
-        }
-        Ok(Wait::Ended { arbitrations }) => {
-            object.text("result", "ended").number("arbitrations", arbitrations)
-        }
-        Err(WaitError::Call(refusal)) => object
-            .text("result", "refused")
-            .refusal(refusal)
-            .optional("step", None)
-            .optional("line", None),
-        Err(WaitError::Step { refusal, index, arbitrations }) => object
-            .text("result", "refused")
-            .refusal(refusal)
-            .number("step", index as u64)
-            .number("line", line_of(scenario, index).into())
-            .number("arbitrations", arbitrations),
+fn print_json(case: &Case, reports: &[Report], output: &mut Output) {
+    reports.iter().for_each(|report| report.print_json(case, output));
+    if let Some(note) = reports.first().and_then(|report| report.note(case)) {
+        output.line(&Object::new().text("type", "note").text("note", &note).end());
     }
-    .end()
 }
 
-fn bound_json(bound: Result<Bound, Refusal>, scenario: &Scenario) -> String {
-    let object = Object::new().text("type", "bound");
-    match bound {
-        Ok(Bound::Within { outranking, triggers, bound }) => object
-            .text("result", "within")
-            .number("outranking", outranking)
-            .number("triggers", triggers)
-            .number("bound", bound),
-        Ok(Bound::Fails(premise)) => {
-            let index = premise.index();
-            let line = index.map(|index| line_of(scenario, index).into());
-            object
-                .text("result", "fails")
-                .text("premise", &premise.to_string())
-                .optional("step", index.map(|index| index as u64))
-                .optional("line", line)
-        }
-        Err(refusal) => object.text("result", "refused").refusal(refusal),
+/// All sources: a line each of those that something came for, one line with the others.
+fn print_table(case: &Case, image: &[u8], reports: &[Report], output: &mut Output) {
+    if let Some(Report { waited: Err(WaitError::Call(refusal)), .. }) = reports.first() {
+        output.line(&format!("{}, before any step", refused(*refusal)));
+        let note = reports.first().and_then(|report| report.note(case));
+        return note.iter().for_each(|note| output.line(&format!("note: {note}")));
     }
-    .end()
+    let came = sources_with_anything(case, image, |row| {
+        row.at_start || row.raised + row.blocks + row.unselected != 0
+    });
+    let (waiting, idle): (Vec<&Report>, Vec<_>) =
+        reports.iter().partition(|report| came.contains(&report.source));
+    let rows = waiting.iter().map(|report| {
+        let bound = match report.bound {
+            Ok(bound) => bound_words(bound, &case.steps, 0),
+            Err(refusal) => refused(refusal),
+        };
+        [case.names.told(report.source), report.waited_words(case), bound]
+    });
+    let head = ["source", "wait", "bound (if the list has so many arbitrations)"].map(String::from);
+    let rows: Vec<_> = std::iter::once(head).chain(rows).collect();
+    let width = |column: usize| rows.iter().map(|row| row[column].chars().count()).max();
+    let (first, second) = (width(0).unwrap_or(0), width(1).unwrap_or(0));
+    for [source, waited, bound] in rows.iter().filter(|_| !waiting.is_empty()) {
+        output.line(&format!("{source:<first$}  {waited:<second$}  {bound}"));
+    }
+    if !idle.is_empty() {
+        let names: Vec<_> = idle.iter().map(|report| case.names.told(report.source)).collect();
+        output.line(&format!("nothing came for {}", names.join(", ")));
+    }
+}
+
+/// The sources whose row of the account has something, over the steps of the case.
+fn sources_with_anything(case: &Case, image: &[u8], has: impl Fn(&Row) -> bool) -> Vec<Source> {
+    // As the wait report: no call, no expectation, and the first refused step ends it.
+    let steps = Case { asks: Vec::new(), ..case.clone() };
+    let followed = follow(&steps, image.to_vec(), &Proved, &mut |_| ());
+    let rows = followed.account.iter().flat_map(Account::rows);
+    let sources = rows.filter_map(|(bit, row)| match bit {
+        Bit::Of(source) => has(row).then_some(source),
+        Bit::Tlip => None,
+    });
+    sources.collect()
+}
+
+/// What the options say of the reports.
+fn judged(
+    options: &Options,
+    case: &Case,
+    image: &[u8],
+    reports: &[Report],
+    output: &mut Output,
+) -> Outcome {
+    if reports.iter().any(|report| report.waited.is_err()) {
+        return Outcome::Refused;
+    }
+    let failed = failed(options, case, image, reports);
+    for (what, sources) in &failed {
+        let object = || {
+            let object = Object::new().text("type", "failed").text("on", what);
+            let names = sources.iter().map(|source| source.to_string()).collect::<Vec<_>>();
+            object.texts("sources", names.iter().map(String::as_str)).end()
+        };
+        output.line(&match options.json {
+            true => object(),
+            false => {
+                let told = sources.iter().map(|source| case.names.told(*source));
+                format!("failed on {what}: {}", told.collect::<Vec<_>>().join(", "))
+            }
+        });
+    }
+    match failed.is_empty() {
+        true => Outcome::Done,
+        false => Outcome::Failed,
+    }
+}
+
+/// The sources that were never acknowledged, then those that were not in time. Of all sources those count that
+/// something came for beside what DMA served.
+fn failed(
+    options: &Options,
+    case: &Case,
+    image: &[u8],
+    reports: &[Report],
+) -> Vec<(String, Vec<Source>)> {
+    if !options.fail_on_never && options.within.is_none() {
+        return Vec::new();
+    }
+    let came = sources_with_anything(case, image, |row| {
+        u64::from(row.at_start) + row.raised + row.blocks > row.served || row.unselected != 0
+    });
+    let asked = |report: &&Report| options.source.is_some() || came.contains(&report.source);
+    let source = |report: &Report| report.source;
+    let (late, never): (Vec<&Report>, Vec<_>) =
+        reports.iter().filter(asked).partition(|report| report.is_acknowledged(None));
+    let mut failed = Vec::new();
+    if options.fail_on_never {
+        failed.push(("never".to_string(), never.iter().copied().map(source).collect()));
+    }
+    if let Some(within) = options.within {
+        // One that is never acknowledged is told once.
+        let rest = if options.fail_on_never { &[][..] } else { &never };
+        let late = late.iter().chain(rest).filter(|report| !report.is_acknowledged(Some(within)));
+        failed.push((format!("not within {within}"), late.copied().map(source).collect()));
+    }
+    failed.retain(|(_, sources): &(String, Vec<Source>)| !sources.is_empty());
+    failed
 }

@@ -39,32 +39,35 @@ write EIPR 00h
 reset
 ";
 
-const UP_TO_THE_REFUSED: &str = " 0  edge INTA0 falling    INTA0 not selected
- 1  edge INTB0 rising     INTB0 not selected
+const UP_TO_THE_REFUSED: &str = " 0  edge INTA0 falling    INTA0 not selected (IAOS 0: the watchdog is the source of INTA0)
+ 1  edge INTB0 rising     INTB0 not selected (EITR bit 2 is 0: falling edges)
  2  edge INTB0 falling    raised INTB0
- 3  edge INTB0 falling    merged INTB0: already pending
- 4  watchdog              raised INTA0; TLIP not selected
+ 3  edge INTB0 falling    merged INTB0 (already pending)
+ 4  watchdog              raised INTA0; TLIP not selected (TLIS 1: NMI is the source of TLIP)
  5  nmi falling           raised TLIP
- 6  nmi falling           merged TLIP: already pending
+ 6  nmi falling           merged TLIP (already pending)
  7  arbitrate             acknowledged the top level, vector 04h
- 8  arbitrate             none: the top level is in service
- 9  return                returned
-10  read CICR             97h: GCEN, IEN, CPL 7
-11  read R20              05h
+ 8  arbitrate             none (the top level is in service; pending: INTA0 masked, INTB0 masked)
+ 9  return                returned (the top level's: the mark is cleared, nothing else)
+10  read CICR             byte 97h (GCEN, IEN, CPL 7)
+11  read R20              byte 05h
 12  write PPR 24h         written
 13  write EIPR 01h        written (DAPR of channel 0, R243 page 9: PPR selects it)
-14  read EIVR             refused with 3: register read or written not modelled or over 255; viewed page over 63 (R246 page 9: PPR selects it) (step 14, line 21)
+14  read EIVR             refused with 3 (register read or written not modelled or over 255; viewed page over 63) (R246 page 9: PPR selects it)
 changed  PPR R234  00h -> 24h  page 0 -> 9
 changed  EIPR R243 page 0  00h -> 05h  INTA0 0 -> 1, INTB0 0 -> 1
 changed  DAPR of channel 0, R243 page 9  00h -> 01h
-refused with 3: register read or written not modelled or over 255; viewed page over 63 (step 14, line 21)
+account  INTA0  raised 1, not selected 1, still pending
+account  INTB0  raised 1, merged 1, not selected 1, still pending
+account  TLIP   raised 1, merged 1, acknowledged 1
+ended by the refusal at step 14 (line 21): 14 steps done, 7 not done
 ";
 
 const WITHOUT_THE_REFUSED: &str = "\
 14  request 0             raised channel 0
-15  step 0x0002000300000000  merged channel 0: already pending
+15  step 0x0002000300000000  merged channel 0 (already pending)
 16  write PPR 00h         written
-17  read R243             05h: INTA0, INTB0 (EIPR R243 page 0)
+17  read R243             byte 05h (INTA0, INTB0) (EIPR R243 page 0)
 18  write R243 04h        erased 01h: INTA0 (EIPR R243 page 0)
 19  write EIPR 00h        erased 04h: INTB0
 20  reset                 reset
@@ -75,6 +78,10 @@ changed  EIVR R246 page 0  44h -> 46h  IAOS 0 -> 1
 changed  NICR R247 page 0  80h -> 00h  TLNM 1 -> 0
 changed  IDCR of channel 0, R240 page 9  00h -> 20h  IP 0 -> 1
 changed  DAPR of channel 0, R243 page 9  00h -> 01h
+account  INTA0      raised 1, not selected 1, erased 1 (line 25: write R243 04h)
+account  INTB0      raised 1, merged 1, not selected 1, erased 1 (line 26: write EIPR 00h)
+account  channel 0  raised 1, merged 1, still pending
+account  TLIP       raised 1, merged 1, acknowledged 1
 done: 21 steps
 ";
 
@@ -92,6 +99,7 @@ fn the_mark_among_the_changes() {
 0  arbitrate             acknowledged the top level, vector 04h
 changed  CICR R230  C7h -> 87h  TLIP 1 -> 0
 changed  MARK  00h -> 01h
+account  TLIP  pending at the start, acknowledged 1
 done: 1 step
 ";
     assert_eq!(run(scenario).with_code(0).out, expected);
@@ -116,7 +124,7 @@ write R240 18h
 ";
     let expected = "\
 0  write EIPR 02h        erased 01h: INTA0
-1  write EIPR 03h        written, no pending bit erased
+1  write EIPR 03h        written (sets INTA0 pending)
 2  write CICR 40h        written
 3  write CICR 17h        erased TLIP
 4  write PPR 24h         written
@@ -130,7 +138,8 @@ write R240 18h
 
 #[test]
 fn no_steps() {
-    let expected = "no register changed\ndone: 0 steps\n";
+    let expected =
+        "no register changed\naccount  nothing was pending or triggered\ndone: 0 steps\n";
     assert_eq!(run("image zero\nset R1 1").with_code(0).out, expected);
 }
 
@@ -258,7 +267,7 @@ fn progress_of_long_traces() {
         let words: Vec<_> = arguments.split(' ').collect();
         let ran = st9_in(&folder, &words, b"").with_code(1);
         assert_eq!(ran.err, "");
-        assert!(ran.out.contains("(step 1100000, line 1100002"), "{}", ran.out);
+        assert!(ran.out.contains("at step 1100000"), "{}", ran.out);
         let command = format!("'{}' {arguments}", env!("CARGO_BIN_EXE_st9"));
         let mut terminal = Command::new("script");
         terminal.args(["-qec", &command, "/dev/null"]).current_dir(&folder).stdin(Stdio::null());
@@ -278,7 +287,11 @@ fn long_traces_are_answered_alike() {
     let text = long_scenario();
     let whole = run(&text).with_code(1).out;
     let quiet = st9(&["run", "-", "--quiet"], &text).with_code(1).out;
-    assert_eq!(whole.lines().count(), 150_001 + quiet.lines().count());
+    // The refused step itself is printed with --quiet too.
+    assert_eq!(whole.lines().count(), 150_000 + quiet.lines().count());
     assert!(whole.ends_with(&quiet));
-    assert!(quiet.ends_with("(step 150000, line 150002)\n"), "{quiet}");
+    assert!(
+        quiet.ends_with("ended by the refusal at step 150000 (line 150002): 150000 steps done\n"),
+        "{quiet}"
+    );
 }

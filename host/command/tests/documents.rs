@@ -3,7 +3,7 @@
 mod support;
 
 use std::fs;
-use support::{root, st9, st9_in};
+use support::{folder, root, st9, st9_in};
 
 fn document(name: &str) -> String {
     fs::read_to_string(root().join(name)).expect("a document")
@@ -14,11 +14,13 @@ fn shown(text: &str) -> String {
     text.lines().map(|line| format!("    {line}\n")).collect()
 }
 
-/// The indented block of a document that starts so.
+/// The indented block of a document that starts so, blank lines in it included.
 fn block(document: &str, start: &str) -> String {
     let from = document.find(&format!("    {start}")).expect("the block is there");
-    let lines = document[from..].lines().take_while(|line| line.starts_with("    "));
-    lines.map(|line| format!("{}\n", &line[4..])).collect()
+    let inside = |line: &&str| line.starts_with("    ") || line.is_empty();
+    let lines = document[from..].lines().take_while(inside);
+    let text: String = lines.map(|line| format!("{}\n", line.trim_start_matches("    "))).collect();
+    format!("{}\n", text.trim_end())
 }
 
 #[test]
@@ -32,13 +34,32 @@ fn readme_shows_the_march_incident() {
     }
 }
 
+/// No option hides it.
+#[test]
+fn readme_shows_that_the_march_incident_fails() {
+    let readme = document("README.md");
+    let arguments = "run examples/march.st9 --quiet --fail-on erased";
+    let words: Vec<_> = arguments.split(' ').collect();
+    let out = st9_in(&root(), &words, b"").with_code(3).out;
+    assert!(readme.contains(&format!("./st9 {arguments}")));
+    assert!(readme.contains(&shown(&out)), "{out}");
+}
+
+#[test]
+fn readme_shows_the_reviewers_cases() {
+    let readme = document("README.md");
+    let out = st9_in(&root(), &["test", "examples/reviewer.st9"], b"").with_code(0).out;
+    assert!(readme.contains("./st9 test examples/reviewer.st9"));
+    assert!(readme.contains(&shown(&out)), "{out}");
+}
+
 #[test]
 fn guide_shows_its_scenario() {
     let guide = document("docs/GUIDE.md");
-    let scenario = block(&guide, "image zero");
+    let scenario = block(&guide, "image zero  ");
     let ran = st9(&["run", "-"], &scenario).with_code(0);
     assert!(guide.contains(&shown(&ran.out)), "{}", ran.out);
-    let wait = ["wait", "-", "--source", "INTC0"];
+    let wait = ["wait", "-", "--source", "FAN"];
     let waited = st9(&wait, &scenario).with_code(0);
     assert!(guide.contains(&shown(&waited.out)), "{}", waited.out);
     let writes =
@@ -47,4 +68,15 @@ fn guide_shows_its_scenario() {
     let bound =
         unbounded.out.lines().find(|line| line.starts_with("bound")).expect("a bound's line");
     assert!(guide.contains(&shown(bound)), "{bound}");
+}
+
+#[test]
+fn guide_shows_its_test() {
+    let guide = document("docs/GUIDE.md");
+    let folder = folder("guide");
+    let scenario = block(&guide, "image zero\n    name OVERTEMP");
+    fs::write(folder.join("fan-test.st9"), scenario).expect("a scenario");
+    let ran = st9_in(&folder, &["test", "fan-test.st9"], b"").with_code(3);
+    assert!(guide.contains("./st9 test fan-test.st9"));
+    assert!(guide.contains(&shown(&ran.out)), "{}", ran.out);
 }

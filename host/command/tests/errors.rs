@@ -4,8 +4,9 @@ mod support;
 
 use support::{folder, st9, st9_in};
 
-const STATEMENTS: &str = "image, set, channel, read, write, edge, watchdog, nmi, request, arbitrate, return, reset or step";
-const NAME: &str = "zero or a file's name (with blanks: between double quotes)";
+const STATEMENTS: &str = "image, set, channel, name, case, a step (read, write, edge, watchdog, nmi, request, arbitrate, return, reset, step), \
+                          run, wait, bound, view or expect";
+const NAME: &str = "zero, fill BYTE or counted, each with or without a length, or a file's name (with blanks: between double quotes)";
 
 /// Bad lines and what is told of each.
 const BAD_LINES: &str = "\
@@ -45,25 +46,49 @@ write R240.p9 0 => 'R240.p9': expected REGISTER
 read EIPR 1 => '1': expected the end of the line
 write EIPR => the line ends too early: expected BYTE
 write EIPR 256 => '256': expected BYTE
-edge => the line ends too early: expected a pin as INTB0 or 2
-edge INTE0 falling => 'INTE0': expected a pin as INTB0 or 2
+edge => the line ends too early: expected PIN
+edge INTE0 falling => 'INTE0': expected PIN
 edge INTB0 => the line ends too early: expected DIRECTION
 edge INTB0 up => 'up': expected DIRECTION
 nmi => the line ends too early: expected DIRECTION
-request => the line ends too early: expected a record as 0 or CH0
-request CH => 'CH': expected a record as 0 or CH0
+request => the line ends too early: expected RECORD
+request CH => 'CH': expected RECORD
 watchdog 1 => '1': expected the end of the line
 step => the line ends too early: expected a number as 97h, 0x97 or 151
 step 0x10000000000000000 => '0x10000000000000000': expected a number as 97h, 0x97 or 151
 return 1 2 3 4 5 6 7 8 9 => '9': expected the end of the line
 image zero => a second image: expected one, that of line 1
 read\0EIPR => 'read\\x00EIPR': expected STATEMENTS
-read \u{E9} => '\\xc3\\xa9': expected REGISTER
+read \u{E9} => '\u{E9}': expected REGISTER
+read 'EIPR' => ''EIPR'': expected REGISTER
+set CICR IEN=2 => 'IEN=2': expected IEN of 0 to 1
+set CICR IEN=1 IEN=1 => 'IEN=1': expected each field once
+set CICR IEN=1 97h => '97h': expected a field as IEN=1
+set CICR HL0=1 => 'HL0=1': expected a field of GCEN, TLIP, TLI, IEN, IAM, CPL
+set R16 IP=1 => 'IP=1': expected a byte: this register's bits have no names
+set EIVR vector=44h => 'vector=44h': expected vector of 00h, 10h to F0h
+name FAN => the line ends too early: expected SOURCE
+name CICR INTC0 => 'CICR': expected NAME
+name 4FAN INTC0 => '4FAN': expected NAME
+name arbitrate INTC0 => 'arbitrate': expected NAME
+name FAN INTE0 => 'INTE0': expected SOURCE
+wait => the line ends too early: expected SOURCE
+wait INTE0 => 'INTE0': expected SOURCE
+bound channel => the line ends too early: expected SOURCE
+view => the line ends too early: expected a page's number
+view 4294967296 => '4294967296': expected a page's number
+run 3 => '3': expected the end of the line
+case => the case has no title: expected one
+expect raised => 'expect raised' before a step: expected a step, run, wait, bound or view before it
 arbitrate\rreturn => a carriage return inside a line: expected lines ended by LF or CRLF";
 
 /// What stands for the words in capitals.
-const EXPECTED: [(&str, &str); 6] = [
+const EXPECTED: [(&str, &str); 10] = [
+    ("PIN", "a pin as INTB0 or 2, or a name of your own"),
+    ("RECORD", "a record as 0 or CH0, or a name of your own"),
     ("STATEMENTS", STATEMENTS),
+    ("SOURCE", "a source as INTB1 or CH0, a name of your own or a number"),
+    ("NAME", "a name of letters, digits, _ and -, a letter first, that is no word of the language"),
     ("PLACE", "R0 to R239, a name as EIPR, R240.p9 or MARK"),
     ("BYTE", "a byte as 97h, 0x97 or 151, at most FFh"),
     ("CHANNEL", "page=, idcr=, ivr=, dcpr=, dapr=, data=, and in or out"),
@@ -83,33 +108,120 @@ fn bad_lines_are_told_with_line_and_expectation() {
     }
 }
 
+/// Bad expectations and what is told of each, after a step.
+const BAD_EXPECTATIONS: &str = "\
+=> the line ends too early: expected ANY
+(14h) => the line ends too early: expected ANY
+nonsense => 'nonsense': expected ANY
+byte => the line ends too early: expected BYTE
+byte 100h => '100h': expected BYTE
+byte 14h 15h => '15h': expected the end of the line
+written 00h => '00h': expected the end of the line
+erased => the line ends too early: expected BIT
+erased 00h => 00h: expected a bit that is erased, or 'written'
+erased 14h INTB0 => '14h': expected the names of its bits after it
+erased INTE0 => 'INTE0': expected BIT
+raised 2 => '2': expected BIT
+raised INTA0 TLIP not => the line ends too early: expected not selected
+INTA0 not raised => 'raised': expected not selected
+not => the line ends too early: expected not selected or not acknowledged
+not raised => 'raised': expected not selected or not acknowledged
+acknowledged TLIP => 'TLIP': expected SOURCE
+acknowledged INTC0 vector => the line ends too early: expected BYTE
+acknowledged INTC0 vector 48h level 4 => 'level': expected the end of the line
+acknowledged by arbitration => the line ends too early: expected a number
+DMA of => the line ends too early: expected SOURCE
+DMA CH0 block starts => 'starts': expected the end of the line
+refused => the line ends too early: expected the number of a refusal
+refused 0 => '0': expected the number of a refusal
+refused 8 => '8': expected the number of a refusal
+none: asleep => 'asleep': expected a premise of demand 3, as not pending or masked
+done => the line ends too early: expected a number
+done 1 last => the line ends too early: expected ANY
+bytes 00h 01h => the line ends too early: expected sixteen bytes
+changed => the line ends too early: expected nothing, or registers with their bytes
+changed EIPR => the line ends too early: expected BYTE
+changed EIPR 1 EIPR 2 => 'EIPR': expected each register once
+changed nothing EIPR 1 => 'EIPR': expected the end of the line
+changed 243 1 => '243': expected a register as R16, EIPR or R240.p9
+5 0 => '5': expected a register as R16, EIPR or R240.p9
+EIPR => the line ends too early: expected BYTE
+R240 1 => 'R240': expected a page with R240 to R255, as R240.p9
+CICR FOO=1 => 'FOO=1': expected a field of GCEN, TLIP, TLI, IEN, IAM, CPL
+raised INTB0) => ')': expected ( before it
+raised (INTB0 => '(': expected its closing parenthesis";
+
+#[test]
+fn bad_expectations_are_told() {
+    let words = [
+        ("ANY", "an answer as the command prints it, changed, or a register"),
+        ("BYTE", "a byte as 97h, 0x97 or 151, at most FFh"),
+        ("BIT", "TLIP, or a source as INTB1, CH0, channel 0 or a name of your own"),
+        ("SOURCE", "a source as INTB1, CH0, channel 0 or a name of your own"),
+    ];
+    for row in BAD_EXPECTATIONS.split('\n') {
+        let (line, message) = row.split_once("=> ").expect("an expectation and its message");
+        let message =
+            words.iter().fold(message.to_string(), |text, (word, full)| text.replace(word, full));
+        let ran =
+            st9(&["run", "-"], &format!("image zero\narbitrate\nexpect {line}\n")).with_code(2);
+        assert_eq!(ran.err, format!("-:3: {message}\n"), "{line}");
+        assert_eq!(ran.out, "", "{line}");
+    }
+}
+
 #[test]
 fn bad_order() {
-    let first = "expected image zero or image FILE first";
-    let late = "expected set and channel before the first step";
+    let first = "expected image zero or image FILE before the first step";
+    let late = "expected image, set, channel and name before the first step";
+    let record = "channel page=9 idcr=240 ivr=241 dcpr=242 dapr=243 data=244 in";
+    let common = "a case after steps that belong to none: expected image, set, channel and name alone before the first case";
     let cases = [
-        ("", format!("-:1: the file has no statement: {first}")),
-        ("\n# nothing\n\n", format!("-:3: the file has no statement: {first}")),
-        ("# x\nset cicr 97h\n", format!("-:2: 'set CICR 97h' before the image: {first}")),
-        ("arbitrate\nimage zero\n", format!("-:1: 'arbitrate' before the image: {first}")),
+        ("", format!("-:1: no image: {first}")),
+        ("\n# nothing\n\n", format!("-:3: no image: {first}")),
+        ("# x\nset cicr 97h\n", format!("-:2: no image: {first}")),
+        ("arbitrate\nimage zero\n", format!("-:1: a step without an image: {first}")),
+        ("case a\nview 0\n", format!("-:2: a step without an image: {first}")),
+        ("case a\nimage zero\n\ncase b\ncase c\n", format!("-:4: no image: {first}")),
         ("image zero\nreturn\nset R1 1\n", format!("-:3: 'set R1 01h' after a step: {late}")),
+        ("image zero\nview 0\nimage zero\n", format!("-:3: 'image zero' after a step: {late}")),
+        ("image zero\nimage zero\n", "-:2: a second image: expected one, that of line 1".into()),
+        ("image zero\nreturn\nname A INTA0\n", format!("-:3: 'name A INTA0' after a step: {late}")),
         (
-            "image zero\nreturn\nchannel page=9 idcr=240 ivr=241 dcpr=242 dapr=243 data=244 in\n",
-            format!(
-                "-:3: 'channel page=9 idcr=240 ivr=241 dcpr=242 dapr=243 data=244 in' \
-                 after a step: {late}"
-            ),
+            &format!("image zero\nreturn\n{record}\n"),
+            format!("-:3: '{record}' after a step: {late}"),
+        ),
+        ("image zero\nreturn\ncase a\n", format!("-:3: {common}")),
+        (
+            "image zero\nname A 1\nname a 2\n",
+            "-:3: a is INTA1 already: expected another name".into(),
+        ),
+        (
+            "image zero\nname A 1\nname B 1\n",
+            "-:3: INTA1 is called A already: expected one name".into(),
+        ),
+        (
+            "image zero\nset R240.p9 IP=1\n",
+            "-:2: R240.p9 is no record's IDCR: expected a byte there".into(),
         ),
         ("image\n", format!("-:1: nothing: expected {NAME}")),
         ("image a b\n", format!("-:1: 'a b': expected {NAME}")),
-        ("image \"a\n", format!("-:1: '\\\"a': expected {NAME}")),
-        ("image \"\"\n", format!("-:1: '\\\"\\\"': expected {NAME}")),
+        ("image zero 1 2\n", format!("-:1: '2': expected {NAME}")),
+        (
+            "image zero 1048577\n",
+            "-:1: '1048577': expected a length of at most 1048576 bytes".into(),
+        ),
+        ("image fill\n", "-:1: nothing: expected a byte as 97h, 0x97 or 151, at most FFh".into()),
+        ("image \"a\n", format!("-:1: '\"a': expected {NAME}")),
+        ("image \"\"\n", format!("-:1: '\"\"': expected {NAME}")),
     ];
     for (text, message) in cases {
-        for command in [&["run", "-"][..], &["wait", "-", "--source", "0"]] {
+        for command in [&["run", "-"][..], &["test", "-"], &["wait", "-", "--source", "0"]] {
             let ran = st9(command, text).with_code(2);
             assert_eq!(ran.err, format!("{message}\n"), "{text:?}");
-            assert_eq!(ran.out, "");
+            let counts =
+                "0 cases: 0 passed, 0 failed; 0 expectations: 0 met, 0 unmet; 1 bad file\n";
+            assert_eq!(ran.out, if command[0] == "test" { counts } else { "" });
         }
     }
 }
@@ -136,7 +248,8 @@ fn files_that_are_not_there() {
     std::fs::write(folder.join("b.st9"), "image zero\n").expect("a scenario");
     let save = ["run", "b.st9", "--save", "none/image"];
     let ran = st9_in(&folder, &save, b"").with_code(2);
-    assert!(ran.err.starts_with("st9: none/image: "), "{}", ran.err);
+    assert!(ran.err.starts_with("st9: --save 'none/image': "), "{}", ran.err);
+    assert_eq!(ran.out, "");
     assert!(ran.err.ends_with(": expected a file that can be written\n"), "{}", ran.err);
 }
 
@@ -153,22 +266,28 @@ fn an_image_named_as_standard_input() {
 
 /// Bad command lines and what is told of each.
 const BAD_USAGE: &str = "\
-walk => 'walk' is no command: expected run, wait, show or help
+walk => 'walk' is no command: expected run, test, wait, show or help
 run => the file is missing: expected a scenario file
 run a b => 'b' is one word too many: expected a scenario file
-run a --page 1 => '--page' is no option here: expected --json, --quiet, --save
-run a --json=1 => '--json=1' is no option here: expected --json, --quiet, --save
+run a --page 1 => '--page' is no option here: expected --json, --quiet, --verbose, --save, --fail-on
+run a --json=1 => '--json=1' is no option here: expected --json, --quiet, --verbose, --save, --fail-on
 run a --save => --save has no value: expected one after it
 run a --save - => '-' is no file to save to: expected a file's name
-run -q a => '-q' is no option here: expected --json, --quiet, --save
+run -q a => '-q' is no option here: expected --json, --quiet, --verbose, --save, --fail-on
 run --json a --json => --json stands twice: expected it once
 run -- --json --quiet => '--quiet' is one word too many: expected a scenario file
-wait a => the source is missing: expected --source with a name as INTB1 or CH0, or a number
-wait a --source INTE0 => 'INTE0' is no source: expected --source with a name as INTB1 or CH0, or a number
+run a --quiet --verbose => --quiet and --verbose: expected one of them
+run a --fail-on lost => --fail-on 'lost': expected erased, merged, pending, unselected, or several with commas between them
+run a --fail-on erased, => --fail-on '': expected erased, merged, pending, unselected, or several with commas between them
+test => the file is missing: expected scenario files, or folders of them
+test a --quiet => '--quiet' is no option here: expected --json, --fail-on
+wait a --fail-on erased => --fail-on 'erased': expected never
+wait a --within x => --within 'x': expected a number of arbitrations
+wait a --save b => --save without a source: expected --source with it
 wait a --source channel => --source has no value: expected one after it
 show a --page x => 'x' is no page: expected a number, 0 to 63
 show => the file is missing: expected an image file, or - for standard input
-help me => 'me' is no topic: expected scenario or json
+help me => 'me' is no topic: expected scenario, expect or json
 --version x => 'x' is one word too many: expected none";
 
 #[test]
@@ -183,17 +302,41 @@ fn bad_usage() {
     let ran = st9(&[], "").with_code(2);
     assert!(ran.err.contains("st9 run FILE"));
     assert_eq!(ran.out, "");
+    // Names of one's own are the scenario's, so a source is looked at after it.
+    let ran = st9(&["wait", "-", "--source", "INTE0"], "image zero\n").with_code(2);
+    let message = "'INTE0' is no source: expected --source with INTB1, CH0, a name that the scenario gives, or a number";
+    assert_eq!(ran.err, format!("st9: {message}\n`st9 help` says how it is used\n"));
+}
+
+/// What could be saved is found before anything is run; what the file held stays until then.
+#[test]
+fn saving() {
+    let folder = folder("save-first");
+    std::fs::write(folder.join("cases.st9"), "image zero\ncase a\ncase b\n").expect("a scenario");
+    let ran = st9_in(&folder, &["run", "cases.st9", "--save", "i"], b"").with_code(2);
+    assert_eq!(ran.err, "st9: --save 'i' with 2 cases: expected a file of one case\n");
+    assert!(!folder.join("i").exists());
+    std::fs::write(folder.join("kept"), "kept").expect("a file");
+    std::fs::write(folder.join("bad.st9"), "nonsense\n").expect("a scenario");
+    st9_in(&folder, &["run", "bad.st9", "--save", "kept"], b"").with_code(2);
+    assert_eq!(std::fs::read(folder.join("kept")).expect("the file"), b"kept");
+    // A longer file is shortened to the image.
+    std::fs::write(folder.join("kept"), [1; 5000]).expect("a file");
+    std::fs::write(folder.join("good.st9"), "image zero\n").expect("a scenario");
+    st9_in(&folder, &["run", "good.st9", "--save", "kept"], b"").with_code(0);
+    assert_eq!(std::fs::read(folder.join("kept")).expect("the file"), [0; st9::IMAGE_LENGTH]);
 }
 
 #[test]
 fn help_and_version() {
     for arguments in [&["help"][..], &["--help"], &["-h"], &["run", "--help"], &["help", "wait"]] {
         let ran = st9(arguments, "").with_code(0);
-        assert!(ran.out.contains("st9 wait FILE --source SOURCE"), "{arguments:?}");
+        assert!(ran.out.contains("st9 wait FILE [--source SOURCE]"), "{arguments:?}");
         assert_eq!(ran.err, "");
     }
     let version = format!("st9 {}\n", env!("CARGO_PKG_VERSION"));
     assert_eq!(st9(&["--version"], "").with_code(0).out, version);
     assert!(st9(&["help", "json"], "").with_code(0).out.contains("\"type\""));
     assert!(st9(&["help", "scenario"], "").with_code(0).out.contains("image zero"));
+    assert!(st9(&["help", "expect"], "").with_code(0).out.contains("expect changed nothing"));
 }

@@ -1,14 +1,15 @@
-//! Random and mutated files with fixed seeds: never a panic, always 0, 1 or 2.
+//! Random and mutated files with fixed seeds: never a panic, always 0, 1, 2 or 3.
 
 mod support;
 
-use scenario::{Scenario, Statement};
+use scenario::{Asked, Case, Scenario, Statement};
+use st9::Source;
 use support::{examples, is_json, st9_in, Random};
 
 const PARSES: usize = 100_000;
-const RUNS: usize = 400;
+const RUNS: usize = 600;
 
-const WORDS: [&str; 60] = [
+const WORDS: [&str; 88] = [
     "image",
     "zero",
     "set",
@@ -69,6 +70,34 @@ const WORDS: [&str; 60] = [
     "\u{FEFF}",
     "=",
     ".p",
+    "expect",
+    "expect",
+    "expect",
+    "raised",
+    "merged",
+    "erased",
+    "not",
+    "selected",
+    "acknowledged",
+    "by",
+    "none",
+    "refused 3",
+    "changed",
+    "nothing",
+    "->",
+    "case",
+    "case a",
+    "name",
+    "FAN",
+    "wait",
+    "bound",
+    "run",
+    "view",
+    "IEN=1",
+    "CPL=9",
+    "fill",
+    "counted",
+    "(",
 ];
 
 /// A file that is made of words, mostly after an image.
@@ -88,7 +117,7 @@ fn of_bytes(random: &mut Random) -> Vec<u8> {
 /// A file with some of its bytes and lines changed, removed, doubled or swapped.
 fn mutated(random: &mut Random, file: &[u8]) -> Vec<u8> {
     let mut lines: Vec<Vec<u8>> = file.split(|byte| *byte == b'\n').map(<[u8]>::to_vec).collect();
-    for _ in 0..=random.below(4) {
+    for _ in 0..=random.below(3) {
         let (line, other) = (random.below(lines.len()), random.below(lines.len()));
         let at = random.below(lines[line].len());
         match random.below(8) {
@@ -126,13 +155,42 @@ fn originals() -> Vec<Vec<u8>> {
 
 /// The same scenario in the words that its statements are written with.
 fn written_again(scenario: &Scenario) -> String {
-    let image = Statement::Image(scenario.image.clone());
-    let sets = scenario.sets.iter();
-    let sets = sets.map(|(place, value)| Statement::Set { place: *place, value: *value });
-    let channels = scenario.channels.iter().copied().map(Statement::Channel);
-    let steps = scenario.steps.iter().map(|step| Statement::Step(step.operation));
-    let all = std::iter::once(image).chain(sets).chain(channels).chain(steps);
-    all.map(|statement| format!("{statement}\n")).collect()
+    scenario.cases.iter().map(case_written_again).collect()
+}
+
+fn case_written_again(case: &Case) -> String {
+    let title = Statement::Case(case.title.clone().unwrap_or("none".to_string()));
+    let image = Statement::Image(case.image.0.clone());
+    let names = (0..20).map(Source).filter_map(|source| {
+        case.names.of(source).map(|name| Statement::Name(name.to_string(), source))
+    });
+    let sets = case.sets.iter().map(|set| Statement::Set { place: set.place, bits: set.bits });
+    let channels = case.channels.iter().copied().map(Statement::Channel);
+    let mut statements = vec![title, image];
+    statements.extend(names.chain(sets).chain(channels));
+    let mut asks = case.asks.iter().peekable();
+    for after in 0..=case.steps.len() {
+        while let Some(ask) = asks.next_if(|ask| ask.after == after) {
+            statements.push(match &ask.what {
+                Asked::Call(call) => Statement::Call(*call),
+                Asked::Expect(expect) => Statement::Expect(expect.clone()),
+            });
+        }
+        statements.extend(case.steps.get(after).map(|step| Statement::Step(step.operation)));
+    }
+    statements.iter().map(|statement| format!("{statement}\n")).collect()
+}
+
+/// A case without its lines and its title.
+fn assert_same(again: &Case, case: &Case) {
+    assert_eq!(again.image.0, case.image.0);
+    let sets = |case: &Case| case.sets.iter().map(|set| (set.place, set.bits)).collect::<Vec<_>>();
+    assert_eq!(sets(again), sets(case));
+    assert_eq!(again.channels, case.channels);
+    assert_eq!(again.words(), case.words());
+    let asks =
+        |case: &Case| case.asks.iter().map(|ask| (ask.after, ask.what.clone())).collect::<Vec<_>>();
+    assert_eq!(asks(again), asks(case));
 }
 
 #[test]
@@ -147,10 +205,10 @@ fn parses() {
                 good += 1;
                 let again =
                     Scenario::parse(written_again(&scenario).as_bytes()).expect("a scenario");
-                assert_eq!(again.image, scenario.image);
-                assert_eq!(again.sets, scenario.sets);
-                assert_eq!(again.channels, scenario.channels);
-                assert_eq!(again.words(), scenario.words());
+                assert_eq!(again.cases.len(), scenario.cases.len());
+                for (again, case) in again.cases.iter().zip(&scenario.cases) {
+                    assert_same(again, case);
+                }
             }
             Err(error) => {
                 bad += 1;
@@ -166,31 +224,37 @@ fn parses() {
 #[test]
 fn runs_of_the_binary() {
     let originals = originals();
-    let commands: [&[&str]; 6] = [
+    let commands: [&[&str]; 9] = [
         &["run", "-"],
         &["run", "-", "--json"],
-        &["run", "-", "--quiet"],
+        &["run", "-", "--quiet", "--fail-on", "erased,pending"],
+        &["run", "-", "--verbose"],
+        &["test", "-"],
+        &["test", "-", "--json"],
         &["wait", "-", "--source", "INTC0"],
         &["wait", "-", "--source", "CH0", "--json"],
         &["show", "-"],
     ];
     let folder = support::folder("fuzz");
     let mut random = Random(0x0915_0002);
-    let mut codes = [0; 3];
+    let mut codes = [0; 4];
     for _ in 0..RUNS {
         let file = any_file(&mut random, &originals);
         let command = random.pick(&commands);
         let ran = st9_in(&folder, command, &file);
         let text = String::from_utf8_lossy(&file);
         let code = ran.code.expect("an exit code");
-        assert!((0..=2).contains(&code), "{code} of {text:?}: {}", ran.err);
+        assert!((0..=3).contains(&code), "{code} of {text:?}: {}", ran.err);
         assert!(!ran.err.contains("panicked"), "{text:?}: {}", ran.err);
-        assert_eq!(code == 2, !ran.err.is_empty(), "{text:?}: {}", ran.err);
-        assert_eq!(code == 2, ran.out.is_empty(), "{text:?}: {}", ran.out);
+        let complaints = ran.err.lines().filter(|line| !line.contains("warning")).count();
+        assert_eq!(code == 2, complaints != 0, "{text:?}: {}", ran.err);
+        // A test has its counts in any case.
+        let silent = ran.out.is_empty();
+        assert_eq!(code == 2 && command[0] != "test", silent, "{text:?}: {}", ran.out);
         if command.contains(&"--json") {
             assert!(ran.out.lines().all(is_json), "{}", ran.out);
         }
         codes[code as usize] += 1;
     }
-    assert!(codes.iter().all(|count| *count > RUNS / 40), "{codes:?}");
+    assert!(codes.iter().all(|count| *count > RUNS / 100), "{codes:?}");
 }

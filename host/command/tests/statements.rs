@@ -2,14 +2,18 @@
 
 mod support;
 
-use scenario::{statement, ImageName, Operation, Place, Statement};
-use st9::{Channel, Edge, Step};
+use scenario::{statement, Bits, Call, ImageName, Names, Operation, Place, Statement};
+use st9::{Channel, Edge, Source, Step};
 use support::Random;
 
 fn assert_read_again(original: &Statement) {
     let text = original.to_string();
     for form in [text.clone(), format!("\t{text} # {text}\r")] {
-        assert_eq!(statement(form.as_bytes()), Ok(Some(original.clone())), "{form}");
+        assert_eq!(
+            statement(form.as_bytes(), &Names::default()),
+            Ok(Some(original.clone())),
+            "{form}"
+        );
     }
 }
 
@@ -17,14 +21,24 @@ fn assert_read_again(original: &Statement) {
 fn bytes_before_the_start() {
     for index in 0..st9::IMAGE_LENGTH {
         let place = Place(index);
-        assert_read_again(&Statement::Set { place, value: (index % 256) as u8 });
+        let bits = Bits::byte((index % 256) as u8);
+        assert_read_again(&Statement::Set { place, bits });
     }
 }
 
 #[test]
 fn images() {
-    assert_read_again(&Statement::Image(ImageName::Zero));
-    for name in ["a", "zero", "Zero", "./zero", "a b", "a#b", "#", "a=b", "é", "a\tb", "image"] {
+    assert_read_again(&Statement::Image(ImageName::ZERO));
+    for length in [0, 1, 1264, 1265, 1266, 1 << 20] {
+        for byte in [0, 1, 0xFF] {
+            assert_read_again(&Statement::Image(ImageName::Fill { byte, length }));
+        }
+        assert_read_again(&Statement::Image(ImageName::Counted { length }));
+    }
+    for name in [
+        "a", "zero", "Zero", "./zero", "fill", "counted", "a b", "a#b", "#", "a=b", "é", "a\tb",
+        "image",
+    ] {
         assert_read_again(&Statement::Image(ImageName::File(name.to_string())));
     }
 }
@@ -44,6 +58,42 @@ fn channels_of_any_bytes() {
         };
         assert_read_again(&Statement::Channel(channel));
     }
+}
+
+/// Fields of the named registers and of an IDCR, as single bits and as groups of them.
+#[test]
+fn fields_before_the_start() {
+    let names = Names::default();
+    let fields = [
+        ("CICR", "IEN=1 CPL=7", 0x17, 0x17),
+        ("CICR", "TLIP=0", 0x40, 0x00),
+        ("EIPLR", "groupA=3 groupD=0", 0xC3, 0x03),
+        ("EIVR", "vector=40h IAOS=1", 0xF2, 0x42),
+        ("PPR", "page=9", 0xFC, 0x24),
+        ("R240.p9", "IP=1 PRL=2", 0x27, 0x22),
+    ];
+    for (register, words, mask, value) in fields {
+        let line = format!("set {register} {words}");
+        let Ok(Some(read @ Statement::Set { bits, .. })) = statement(line.as_bytes(), &names)
+        else {
+            panic!("{line} is no set");
+        };
+        assert_eq!(bits, Bits { mask, value }, "{line}");
+        assert_eq!(read.to_string(), line);
+        assert_read_again(&read);
+    }
+}
+
+#[test]
+fn calls_names_and_cases() {
+    for source in [0, 7, 8, 19, 20, u32::MAX] {
+        assert_read_again(&Statement::Call(Call::Wait(Source(source))));
+        assert_read_again(&Statement::Call(Call::Bound(Source(source))));
+        assert_read_again(&Statement::Call(Call::View(source)));
+        assert_read_again(&Statement::Name("FAN-1".to_string(), Source(source)));
+    }
+    assert_read_again(&Statement::Call(Call::Run));
+    assert_read_again(&Statement::Case("a title, é".to_string()));
 }
 
 fn number(random: &mut Random) -> u32 {
@@ -95,6 +145,6 @@ fn every_named_register() {
         assert_eq!(read.to_string(), format!("read {name}"));
         assert_read_again(&read);
         let lower = format!("read {}", name.to_lowercase());
-        assert_eq!(statement(lower.as_bytes()), Ok(Some(read)));
+        assert_eq!(statement(lower.as_bytes(), &Names::default()), Ok(Some(read)));
     }
 }

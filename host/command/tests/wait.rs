@@ -12,12 +12,14 @@ const RECORD: &str = "channel page=9 idcr=240 ivr=241 dcpr=242 dapr=243 data=244
 
 fn assert_report(scenario: &str, waited: &str, bound: &str) {
     let ran = st9(&["wait", "-", "--source", "INTB0"], scenario).with_code(0);
+    let first = scenario.lines().position(|line| line == "arbitrate").unwrap_or_default() + 1;
+    let waited = waited.replace("line N", &format!("line {first}"));
     let expected = format!("wait for INTB0 (source 2): {waited}\nbound: {bound}\n");
     assert_eq!(ran.out, expected, "{scenario}");
     assert_eq!(ran.err, "");
 }
 
-const FIRST: &str = "acknowledged by arbitration 1";
+const FIRST: &str = "acknowledged by arbitration 1 at step 0 (line N)";
 const NEVER: &str = "not acknowledged, the list ended after 1 arbitration";
 
 #[test]
@@ -44,15 +46,15 @@ fn premises_of_the_steps() {
     let cases = [
         (
             "arbitrate\nread CICR\n",
-            "a step that is no trigger, arbitration or return (step 1, line 8: read CICR)",
+            "a step that is no trigger, arbitration or return at step 1 (line 8: read CICR)",
         ),
         (
             "arbitrate\narbitrate\n",
-            "an arbitration with interrupts disabled (IEN = 0) (step 1, line 8: arbitrate)",
+            "an arbitration with interrupts disabled (IEN = 0) at step 1 (line 8: arbitrate)",
         ),
         (
             "arbitrate\narbitrate\nwrite EIPR 00h\n",
-            "a step that is no trigger, arbitration or return (step 2, line 9: write EIPR 00h)",
+            "a step that is no trigger, arbitration or return at step 2 (line 9: write EIPR 00h)",
         ),
     ];
     for (steps, premise) in cases {
@@ -63,8 +65,8 @@ fn premises_of_the_steps() {
 
 fn within(outranking: u32, triggers: u32) -> String {
     format!(
-        "by arbitration {} at the latest (H {outranking}: outranking sources pending at the start, \
-         E {triggers}: triggers of outranking sources in the list)",
+        "by arbitration {} at the latest, H {outranking}, E {triggers} \
+         (if the list has so many; H: outranking sources pending at the start, E: triggers of outranking sources in the list)",
         outranking + triggers + 1
     )
 }
@@ -77,7 +79,11 @@ fn bounds() {
     let outranked =
         START.replace("E7h", "E4h").replace("EIPR 04h", "EIPR 07h").replace("EIMR 04h", "EIMR 07h");
     let steps = "arbitrate\nedge INTA0 falling\nedge INTA0 falling\nreturn\narbitrate\nreturn\narbitrate\nreturn\narbitrate\n";
-    assert_report(&format!("{outranked}{steps}"), "acknowledged by arbitration 4", &within(2, 2));
+    assert_report(
+        &format!("{outranked}{steps}"),
+        "acknowledged by arbitration 4 at step 8 (line 15)",
+        &within(2, 2),
+    );
 }
 
 #[test]
@@ -87,7 +93,12 @@ fn sources_by_every_name() {
     for name in names {
         let ran = st9(&[&["wait", "-", "--source"], name].concat(), &scenario).with_code(0);
         let first = ran.out.lines().next();
-        assert_eq!(first, Some("wait for channel 0 (source 8): acknowledged by arbitration 1"));
+        assert_eq!(
+            first,
+            Some(
+                "wait for channel 0 (source 8): acknowledged by arbitration 1 at step 0 (line 10)"
+            )
+        );
     }
     let ran = st9(&["wait", "--source=0x2", "-"], &scenario).with_code(0);
     assert!(ran.out.starts_with("wait for INTB0 (source 2): not acknowledged"), "{}", ran.out);

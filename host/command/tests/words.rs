@@ -1,6 +1,6 @@
 //! Answers in words: nothing here calls the model.
 
-use scenario::{bound_words, statement, Before, Report, Statement, StepLine};
+use scenario::{bound_explained, statement, Names, Report, Statement, StepLine};
 use st9::Effect::{Merged, NotSelected, Raised};
 use st9::{Answer, Bound, Channel, Effect, Premise, Refusal, Source};
 
@@ -26,30 +26,44 @@ fn page_9() -> Image {
 }
 
 fn step(line: &str) -> StepLine {
-    match statement(line.as_bytes()) {
+    match statement(line.as_bytes(), &Names::default()) {
         Ok(Some(Statement::Step(operation))) => StepLine { operation, line: 12 },
         other => panic!("{line} is no step: {other:?}"),
     }
 }
 
 fn told(line: &str, image: Image, answer: Result<Answer, Refusal>) -> String {
+    told_between(line, image, image, answer)
+}
+
+fn told_between(
+    line: &str,
+    before: Image,
+    after: Image,
+    answer: Result<Answer, Refusal>,
+) -> String {
     let step = step(line);
-    let before = Before::of(&image, step.operation.step);
-    let report = Report { index: 4, step, before, answer, channels: &[CHANNEL] };
-    report.words()
+    let (before, after, names) = (&before, &after, &Names::default());
+    Report { index: 4, step, answer, before, after, channels: &[CHANNEL], names }.words()
+}
+
+/// The image with a byte replaced.
+fn with(mut image: Image, place: usize, byte: u8) -> Image {
+    image[place] = byte;
+    image
 }
 
 #[test]
 fn reads() {
-    let idcr = "2Ah: IP, IM, PRL 2 (IDCR of channel 0, R240 page 9: PPR selects it)";
+    let idcr = "byte 2Ah (IP, IM, PRL 2) (IDCR of channel 0, R240 page 9: PPR selects it)";
     let expected = [
-        ("read EIPR", page_0(), 0x14, "14h: INTB0, INTC0"),
-        ("read EIPR", page_0(), 0x00, "00h"),
-        ("read R243", page_0(), 0x04, "04h: INTB0 (EIPR R243 page 0)"),
-        ("read CICR", page_9(), 0x97, "97h: GCEN, IEN, CPL 7"),
-        ("read R16", page_9(), 0x05, "05h"),
+        ("read EIPR", page_0(), 0x14, "byte 14h (INTB0, INTC0)"),
+        ("read EIPR", page_0(), 0x00, "byte 00h"),
+        ("read R243", page_0(), 0x04, "byte 04h (INTB0) (EIPR R243 page 0)"),
+        ("read CICR", page_9(), 0x97, "byte 97h (GCEN, IEN, CPL 7)"),
+        ("read R16", page_9(), 0x05, "byte 05h"),
         ("read R240", page_9(), 0x2A, idcr),
-        ("step 0xF300", page_0(), 0x04, "04h: INTB0 (EIPR R243 page 0)"),
+        ("step 0xF300", page_0(), 0x04, "byte 04h (INTB0) (EIPR R243 page 0)"),
     ];
     for (line, before, byte, words) in expected {
         assert_eq!(told(line, before, Ok(Answer::Byte(byte))), words, "{line}");
@@ -59,81 +73,207 @@ fn reads() {
 #[test]
 fn writes() {
     let dapr = "written (DAPR of channel 0, R243 page 9: PPR selects it)";
+    let eipr = with(page_0(), 243, 0x14);
+    let idcr = "erased IP of channel 0 (IDCR of channel 0, R240 page 9: PPR selects it)";
+    let absent = "written (stored 24h: absent bits are 0)";
     let expected = [
-        ("write EIPR 0", page_0(), 0x14, "erased 14h: INTB0, INTC0"),
-        ("write EIPR 14h", page_0(), 0x00, "written, no pending bit erased"),
-        ("write EIPR 0", page_9(), 0x00, dapr),
-        ("write R16 0", page_9(), 0x00, "written"),
+        ("write EIPR 0", eipr, with(eipr, 243, 0), 0x14, "erased 14h: INTB0, INTC0"),
+        ("write EIPR 14h", eipr, eipr, 0x00, "written"),
+        ("write EIPR 34h", eipr, with(eipr, 243, 0x34), 0, "written (sets INTC1 pending)"),
+        (
+            "write EIPR 20h",
+            eipr,
+            with(eipr, 243, 0x20),
+            0x14,
+            "erased 14h: INTB0, INTC0 (sets INTC1 pending)",
+        ),
+        ("write EIPR 0", page_9(), page_9(), 0x00, dapr),
+        ("write R16 0", page_9(), page_9(), 0x00, "written"),
+        ("write CICR 17h", with(page_0(), 230, 0x57), with(page_0(), 230, 0x17), 0, "erased TLIP"),
+        (
+            "write CICR 57h",
+            with(page_0(), 230, 0x17),
+            with(page_0(), 230, 0x57),
+            0,
+            "written (sets TLIP pending)",
+        ),
+        ("write R240 0", with(page_9(), 384, 0x20), page_9(), 0, idcr),
+        (
+            "write NICR 0",
+            with(page_0(), 247, 0x80),
+            with(page_0(), 247, 0x80),
+            0,
+            "written (stored 80h: TLNM stays set)",
+        ),
+        ("write PPR 27h", page_0(), with(page_0(), 234, 0x24), 0, absent),
     ];
-    for (line, before, erased, words) in expected {
-        assert_eq!(told(line, before, Ok(Answer::Written { erased })), words, "{line}");
+    for (line, before, after, erased, words) in expected {
+        let answer = Ok(Answer::Written { erased });
+        assert_eq!(told_between(line, before, after, answer), words, "{line}");
     }
 }
 
 #[test]
 fn refused_steps() {
     let words =
-        "refused with 3: register read or written not modelled or over 255; viewed page over 63";
+        "refused with 3 (register read or written not modelled or over 255; viewed page over 63)";
     let refused = Err(Refusal::Register);
     let selected = format!("{words} (R246 page 9: PPR selects it)");
     assert_eq!(told("read EIVR", page_9(), refused), selected);
     assert_eq!(told("read R256", page_9(), refused), words);
+    let (image, names) = (&page_0(), &Names::default());
     let step = step("read R256");
-    let before = Before::of(&page_0(), step.operation.step);
-    let report = Report { index: 4, step, before, answer: refused, channels: &[] };
-    assert_eq!(report.line(3), format!("  4  read R256             {words} (step 4, line 12)"));
+    let report = Report {
+        index: 4,
+        step,
+        answer: refused,
+        before: image,
+        after: image,
+        channels: &[],
+        names,
+    };
+    assert_eq!(report.line(3), format!("  4  read R256             {words}"));
 }
 
 #[test]
 fn triggers() {
-    let expected: [(&str, Effect, Effect, &str); 9] = [
-        ("edge INTB0 falling", Raised, NotSelected, "raised INTB0"),
-        ("edge 7 rising", Merged, NotSelected, "merged INTD1: already pending"),
-        ("edge INTA0 rising", NotSelected, NotSelected, "INTA0 not selected"),
-        ("watchdog", Raised, NotSelected, "raised INTA0; TLIP not selected"),
-        ("watchdog", Raised, Merged, "raised INTA0; merged TLIP: already pending"),
-        ("nmi rising", NotSelected, Raised, "raised TLIP"),
-        ("nmi falling", NotSelected, NotSelected, "TLIP not selected"),
-        ("request 0", Merged, NotSelected, "merged channel 0: already pending"),
-        ("step 0x0002000100000000", NotSelected, Raised, "INTA0 not selected; raised TLIP"),
+    let falling = "EITR bit 2 is 0: falling edges";
+    let expected: [(&str, u8, Effect, Effect, &str); 12] = [
+        ("edge INTB0 falling", 0x46, Raised, NotSelected, "raised INTB0"),
+        ("edge 7 rising", 0x46, Merged, NotSelected, "merged INTD1 (already pending)"),
+        (
+            "edge INTB0 rising",
+            0x46,
+            NotSelected,
+            NotSelected,
+            &format!("INTB0 not selected ({falling})"),
+        ),
+        (
+            "edge INTA0 rising",
+            0x44,
+            NotSelected,
+            NotSelected,
+            "INTA0 not selected (IAOS 0: the watchdog is the source of INTA0)",
+        ),
+        (
+            "edge INTA0 rising",
+            0x46,
+            NotSelected,
+            NotSelected,
+            "INTA0 not selected (EITR bit 0 is 0: falling edges)",
+        ),
+        (
+            "watchdog",
+            0x44,
+            Raised,
+            NotSelected,
+            "raised INTA0; TLIP not selected (TLIS 1: NMI is the source of TLIP)",
+        ),
+        ("watchdog", 0x40, Raised, Merged, "raised INTA0; merged TLIP (already pending)"),
+        ("nmi rising", 0x4C, NotSelected, Raised, "raised TLIP"),
+        (
+            "nmi falling",
+            0x4C,
+            NotSelected,
+            NotSelected,
+            "TLIP not selected (TLTEV 1: rising edges)",
+        ),
+        (
+            "nmi falling",
+            0x40,
+            NotSelected,
+            NotSelected,
+            "TLIP not selected (TLIS 0: the watchdog is the source of TLIP)",
+        ),
+        ("request 0", 0x46, Merged, NotSelected, "merged channel 0 (already pending)"),
+        (
+            "step 0x0002000100000000",
+            0x42,
+            NotSelected,
+            Raised,
+            "INTA0 not selected (IAOS 1: pin 0 is the source of INTA0); raised TLIP",
+        ),
     ];
-    for (line, maskable, tlip, words) in expected {
+    for (line, eivr, maskable, tlip, words) in expected {
         let answer = Ok(Answer::Triggered { maskable, tlip });
-        assert_eq!(told(line, page_0(), answer), words, "{line}");
+        assert_eq!(told(line, with(page_0(), 246, eivr), answer), words, "{line}");
     }
 }
 
 #[test]
-fn arbitrations_returns_resets() {
+fn arbitrations_and_resets() {
     let source = Source::channel(0);
     let interrupt = Answer::Interrupt { source, level: 2, vector: 0x34 };
     let moved = Answer::Transferred { source, ended: false };
     let ended = Answer::Transferred { source, ended: true };
     let top_level = Answer::TopLevel { vector: 4 };
     let expected = [
-        (page_0(), Answer::Nothing, "none: no request is eligible (IEN 1, CPL 7)"),
-        (page_9(), Answer::Nothing, "none: the top level is in service"),
-        (page_0(), top_level, "acknowledged the top level, vector 04h"),
-        (page_0(), interrupt, "acknowledged channel 0, level 2, vector 34h"),
-        (page_0(), moved, "DMA of channel 0: one byte moved"),
-        (page_0(), ended, "DMA of channel 0: one byte moved, block ended"),
+        (top_level, "acknowledged the top level, vector 04h"),
+        (interrupt, "acknowledged channel 0, level 2, vector 34h"),
+        (moved, "DMA of channel 0: one byte moved"),
+        (ended, "DMA of channel 0: one byte moved, block ended"),
     ];
-    for (before, answer, words) in expected {
-        assert_eq!(told("arbitrate", before, Ok(answer)), words);
+    for (answer, words) in expected {
+        assert_eq!(told("arbitrate", page_0(), Ok(answer)), words);
     }
-    assert_eq!(told("return", page_0(), Ok(Answer::Returned)), "returned");
     assert_eq!(told("reset", page_0(), Ok(Answer::Reset)), "reset");
+}
+
+#[test]
+fn arbitrations_that_find_nothing() {
+    let both = with(with(page_0(), 243, 0x18), 245, 0xE7);
+    let all = with(with(with(both, 244, 0x08), 230, 0x57), 384, 0x22);
+    let dma = with(page_0(), 384, 0x35);
+    let expected = [
+        (page_0(), "nothing is pending; IEN 1, CPL 7"),
+        (page_9(), "the top level is in service; nothing is pending"),
+        (both, "pending: INTB1 masked, INTC0 masked; IEN 1, CPL 7"),
+        (with(both, 244, 0x18), "pending: INTB1 at level 3, INTC0 at level 4; IEN 1, CPL 7"),
+        (
+            all,
+            "pending: INTB1 at level 3, INTC0 masked, channel 0 masked, TLIP with TLNM 0, TLI 0; IEN 1, CPL 7",
+        ),
+        (dma, "pending: channel 0 for DMA at level 5; IEN 1, CPL 7"),
+        (with(both, st9::MARK, 1), "the top level is in service; pending: INTB1 masked, INTC0 masked"),
+    ];
+    for (before, why) in expected {
+        let words = format!("none ({why})");
+        assert_eq!(told("arbitrate", before, Ok(Answer::Nothing)), words);
+    }
+}
+
+/// What a return restored: IAM before it decides.
+#[test]
+fn returns() {
+    let image = |cicr: u8, nicr: u8| with(with(page_0(), 230, cicr), 247, nicr);
+    let expected = [
+        (image(0x87, 0), image(0x97, 0), "IEN 0 -> 1"),
+        (image(0x97, 0), image(0x97, 0), "IEN 1 as before"),
+        (image(0x8A, 0x90), image(0x9C, 0x80), "IEN 0 -> 1, CPL 2 -> 4: HL4 cleared"),
+        (image(0x8A, 0x80), image(0x9F, 0x80), "IEN 0 -> 1, CPL 2 -> 7: no HL bit was set"),
+        (
+            page_9(),
+            with(page_9(), st9::MARK, 0),
+            "the top level's: the mark is cleared, nothing else",
+        ),
+    ];
+    for (before, after, why) in expected {
+        let words = told_between("return", before, after, Ok(Answer::Returned));
+        assert_eq!(words, format!("returned ({why})"));
+    }
 }
 
 #[test]
 fn bounds() {
     let within = Bound::Within { outranking: 1, triggers: 2, bound: 4 };
-    let words = "by arbitration 4 at the latest \
-                 (H 1: outranking sources pending at the start, E 2: triggers of outranking sources in the list)";
-    assert_eq!(bound_words(within, &[]), words);
-    let fails = Bound::Fails(Premise::OtherStep { index: 1 });
-    let steps = [step("arbitrate"), step("write EIPR 0")];
+    let words = "by arbitration 4 at the latest, H 1, E 2 \
+                 (if the list has so many; H: outranking sources pending at the start, E: triggers of outranking sources in the list)";
+    assert_eq!(bound_explained(within, &[], 0), words);
+    let steps = [step("return"), step("arbitrate"), step("write EIPR 0")];
     let words = "none, as a premise fails: a step that is no trigger, arbitration or return \
-                 (step 1, line 12: write EIPR 00h)";
-    assert_eq!(bound_words(fails, &steps), words);
+                 at step 2 (line 12: write EIPR 00h)";
+    for (index, from) in [(2, 0), (1, 1)] {
+        let fails = Bound::Fails(Premise::OtherStep { index });
+        assert_eq!(bound_explained(fails, &steps, from), words);
+    }
 }

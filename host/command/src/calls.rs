@@ -1,0 +1,332 @@
+//! The model as the command calls it, and the calls of a scenario with their answers.
+
+use crate::answers::{bound_explained, counted, refused, Report};
+use crate::number::hex;
+use crate::{Call, Case, Object};
+use st9::{Answer, Bound, Channel, Done, Refusal, RunError, Source, Step, Wait, WaitError};
+
+/// A model of the part: the proved one, or another to compare it with.
+pub trait Model {
+    /// Does one step.
+    fn step(&self, image: &mut [u8], channels: &[Channel], step: Step) -> Result<Answer, Refusal>;
+
+    /// Does steps one after another.
+    fn run(&self, image: &mut [u8], channels: &[Channel], words: &[u64]) -> Result<Done, RunError>;
+
+    /// The wait report.
+    fn wait(
+        &self,
+        image: &mut [u8],
+        channels: &[Channel],
+        source: Source,
+        words: &[u64],
+    ) -> Result<Wait, WaitError>;
+
+    /// Demand 3's bound.
+    fn bound(
+        &self,
+        image: &[u8],
+        channels: &[Channel],
+        source: Source,
+        words: &[u64],
+    ) -> Result<Bound, Refusal>;
+
+    /// The view of a page.
+    fn view<'a>(&self, image: &'a [u8], page: u32) -> Result<&'a [u8], Refusal>;
+}
+
+/// What a call answered.
+#[derive(Clone, Debug, PartialEq, Eq)]
+pub enum CallAnswer {
+    /// Of a run, with the image before its last step.
+    Run {
+        /// The answer.
+        done: Result<Done, RunError>,
+        /// The image before the last step that was done.
+        before_last: Vec<u8>,
+    },
+    /// Of a wait.
+    Wait(Result<Wait, WaitError>),
+    /// Of a bound.
+    Bound(Result<Bound, Refusal>),
+    /// Of a view.
+    View(Result<Vec<u8>, Refusal>),
+}
+
+/// A call, its line, and the steps of the case before it.
+#[derive(Clone, Copy, Debug, PartialEq, Eq)]
+pub struct Made {
+    /// The call.
+    pub call: Call,
+    /// Its line.
+    pub line: u32,
+    /// The steps of the case before it: where its list starts.
+    pub from: usize,
+}
+
+/// A call of a case and its answer, to be told.
+#[derive(Clone, Debug)]
+pub struct CallReport<'a> {
+    /// The call.
+    pub call: Call,
+    /// Its line.
+    pub line: u32,
+    /// The steps of the case before it: where its list starts.
+    pub from: usize,
+    /// What the model answered.
+    pub answer: CallAnswer,
+    /// The image before it.
+    pub before: &'a [u8],
+    /// The copy after it.
+    pub after: Vec<u8>,
+    /// The case.
+    pub case: &'a Case,
+}
+
+impl<'a> CallReport<'a> {
+    /// Makes the call on a copy of the image, over the words of the steps that follow.
+    pub fn of(
+        model: &impl Model,
+        made: Made,
+        words: &[u64],
+        before: &'a [u8],
+        case: &'a Case,
+    ) -> CallReport<'a> {
+        let Made { call, line, from } = made;
+        let mut after = before.to_vec();
+        let channels = &case.channels;
+        let answer = match call {
+            Call::Run => {
+                let done = model.run(&mut after, channels, words);
+                let mut before_last = before.to_vec();
+                if let Ok(Done { steps: steps @ 1.., .. }) = done {
+                    let _ = model.run(&mut before_last, channels, &words[..steps - 1]);
+                }
+                CallAnswer::Run { done, before_last }
+            }
+            Call::Wait(source) => CallAnswer::Wait(model.wait(&mut after, channels, source, words)),
+            Call::Bound(source) => CallAnswer::Bound(model.bound(&after, channels, source, words)),
+            Call::View(page) => CallAnswer::View(model.view(&after, page).map(<[u8]>::to_vec)),
+        };
+        CallReport { call, line, from, answer, before, after, case }
+    }
+
+    /// The refusal, if the call was refused, before any step or at one.
+    pub fn refusal(&self) -> Option<Refusal> {
+        match self.answer {
+            CallAnswer::Run { done: Err(RunError::Call(refusal)), .. }
+            | CallAnswer::Run { done: Err(RunError::Step { refusal, .. }), .. }
+            | CallAnswer::Wait(Err(WaitError::Call(refusal)))
+            | CallAnswer::Wait(Err(WaitError::Step { refusal, .. }))
+            | CallAnswer::Bound(Err(refusal))
+            | CallAnswer::View(Err(refusal)) => Some(refusal),
+            _ => None,
+        }
+    }
+
+    /// The last step that a run did, with its answer.
+    pub(crate) fn last(&self) -> Option<Report<'_>> {
+        let CallAnswer::Run { done: Ok(Done { steps, last: Some(last) }), before_last } =
+            &self.answer
+        else {
+            return None;
+        };
+        let index = self.from + steps.checked_sub(1)?;
+        Some(Report {
+            index,
+            step: *self.case.steps.get(index)?,
+            answer: Ok(*last),
+            before: before_last,
+            after: &self.after,
+            channels: &self.case.channels,
+            names: &self.case.names,
+        })
+    }
+
+    /// The step of the case that acknowledged what a wait is for.
+    pub(crate) fn acknowledged_at(&self) -> Option<usize> {
+        match self.answer {
+            CallAnswer::Wait(Ok(Wait::Acknowledged { arbitrations })) => {
+                self.case.arbitration(self.from, arbitrations)
+            }
+            _ => None,
+        }
+    }
+
+    /// The answer in words; what the command adds is in parentheses.
+    pub fn words(&self) -> String {
+        match &self.answer {
+            CallAnswer::Run { done, .. } => self.run_words(done),
+            CallAnswer::Wait(waited) => waited_words(*waited, self.case, self.from),
+            CallAnswer::Bound(Ok(bound)) => bound_explained(*bound, &self.case.steps, self.from),
+            CallAnswer::View(Ok(bytes)) => {
+                let bytes = bytes.iter().map(|byte| hex(*byte)).collect::<Vec<_>>();
+                format!("bytes {}", bytes.join(" "))
+            }
+            CallAnswer::Bound(Err(refusal)) | CallAnswer::View(Err(refusal)) => refused(*refusal),
+        }
+    }
+
+    fn run_words(&self, done: &Result<Done, RunError>) -> String {
+        match done {
+            Ok(done) => {
+                let steps = counted(done.steps as u64, "step");
+                match self.last() {
+                    Some(last) => format!("done: {steps}, last answer: {}", last.words()),
+                    None => format!("done: {steps}, last answer: none (the list is empty)"),
+                }
+            }
+            Err(RunError::Call(refusal)) => refused(*refusal),
+            Err(RunError::Step { refusal, index }) => {
+                refused_at(*refusal, self.case, self.from + index, "")
+            }
+        }
+    }
+
+    /// The statement, with the own name of a source.
+    pub fn statement(&self) -> String {
+        let own = match self.call {
+            Call::Wait(source) | Call::Bound(source) => self.case.names.of(source),
+            _ => None,
+        };
+        match own {
+            Some(own) => format!("{} ({own})", self.call),
+            None => self.call.to_string(),
+        }
+    }
+
+    /// The call as an object.
+    pub fn json(&self) -> String {
+        let start = |name| {
+            let object = Object::new().text("type", name).number("at", self.line.into());
+            object.number("from", self.from as u64)
+        };
+        let (case, names, from) = (self.case, &self.case.names, self.from);
+        let object = match &self.answer {
+            CallAnswer::Run { done, .. } => self.run_json(start("run"), *done),
+            CallAnswer::Wait(waited) => {
+                waited_json(start("wait").source(self.source(), names), *waited, case, from)
+            }
+            CallAnswer::Bound(bound) => {
+                bound_json(start("bound").source(self.source(), names), *bound, case, from)
+            }
+            CallAnswer::View(Ok(bytes)) => {
+                let bytes = bytes.iter().map(u8::to_string).collect::<Vec<_>>();
+                start("view").text("result", "viewed").list("bytes", &bytes)
+            }
+            CallAnswer::View(Err(refusal)) => {
+                start("view").text("result", "refused").refusal(*refusal)
+            }
+        };
+        object.text("words", &self.words()).end()
+    }
+
+    fn source(&self) -> Source {
+        match self.call {
+            Call::Wait(source) | Call::Bound(source) => source,
+            _ => Source(0),
+        }
+    }
+
+    fn run_json(&self, object: Object, done: Result<Done, RunError>) -> Object {
+        match done {
+            Ok(done) => {
+                let last = self.last().map(|last| last.words());
+                let object = object.text("result", "done").number("steps", done.steps as u64);
+                object.text("last", last.as_deref().unwrap_or("none"))
+            }
+            Err(RunError::Call(refusal)) => refused_json(object, refusal, self.case, None),
+            Err(RunError::Step { refusal, index }) => {
+                refused_json(object, refusal, self.case, Some(self.from + index))
+            }
+        }
+    }
+}
+
+/// A refusal at a step of a list: `refused with 3 at step 2 (line 4; meaning)`.
+fn refused_at(refusal: Refusal, case: &Case, index: usize, more: &str) -> String {
+    let line = case.line_of(index);
+    format!("refused with {} at step {index}{more} (line {line}: {refusal})", refusal.number())
+}
+
+/// A wait report in words, over the steps of a case from one on.
+pub fn waited_words(waited: Result<Wait, WaitError>, case: &Case, from: usize) -> String {
+    match waited {
+        Ok(Wait::Acknowledged { arbitrations }) => {
+            let place = case
+                .arbitration(from, arbitrations)
+                .map(|index| format!(" at step {index} (line {})", case.line_of(index)));
+            format!("acknowledged by arbitration {arbitrations}{}", place.unwrap_or_default())
+        }
+        Ok(Wait::Ended { arbitrations }) => {
+            let made = counted(arbitrations, "arbitration");
+            format!("not acknowledged, the list ended after {made}")
+        }
+        Err(WaitError::Call(refusal)) => refused(refusal),
+        Err(WaitError::Step { refusal, index, arbitrations }) => {
+            let made = format!(", after {}", counted(arbitrations, "arbitration"));
+            refused_at(refusal, case, from + index, &made)
+        }
+    }
+}
+
+/// A wait report's members.
+pub fn waited_json(
+    object: Object,
+    waited: Result<Wait, WaitError>,
+    case: &Case,
+    from: usize,
+) -> Object {
+    match waited {
+        Ok(Wait::Acknowledged { arbitrations }) => {
+            let step = case.arbitration(from, arbitrations);
+            object
+                .text("result", "acknowledged")
+                .number("arbitrations", arbitrations)
+                .optional("step", step.map(|step| step as u64))
+                .optional("line", step.map(|step| case.line_of(step).into()))
+        }
+        Ok(Wait::Ended { arbitrations }) => {
+            object.text("result", "ended").number("arbitrations", arbitrations)
+        }
+        Err(WaitError::Call(refusal)) => refused_json(object, refusal, case, None),
+        Err(WaitError::Step { refusal, index, arbitrations }) => {
+            refused_json(object, refusal, case, Some(from + index))
+                .number("arbitrations", arbitrations)
+        }
+    }
+}
+
+/// A bound's members.
+pub fn bound_json(
+    object: Object,
+    bound: Result<Bound, Refusal>,
+    case: &Case,
+    from: usize,
+) -> Object {
+    match bound {
+        Ok(Bound::Within { outranking, triggers, bound }) => object
+            .text("result", "within")
+            .number("outranking", outranking)
+            .number("triggers", triggers)
+            .number("bound", bound),
+        Ok(Bound::Fails(premise)) => {
+            let index = premise.index().map(|index| from + index);
+            object
+                .text("result", "fails")
+                .text("premise", &premise.to_string())
+                .optional("step", index.map(|index| index as u64))
+                .optional("line", index.map(|index| case.line_of(index).into()))
+        }
+        Err(refusal) => object.text("result", "refused").refusal(refusal),
+    }
+}
+
+/// A refusal's members with the step and its line, null before any step.
+pub fn refused_json(object: Object, refusal: Refusal, case: &Case, index: Option<usize>) -> Object {
+    object
+        .text("result", "refused")
+        .refusal(refusal)
+        .optional("step", index.map(|index| index as u64))
+        .optional("line", index.map(|index| case.line_of(index).into()))
+}

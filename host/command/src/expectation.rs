@@ -1,0 +1,317 @@
+//! What a step or a call is expected to give, and whether it did.
+
+use crate::calls::{CallAnswer, CallReport};
+use crate::changes::{changes, Change};
+use crate::fields::Bits;
+use crate::pending::Bit;
+use crate::{Call, Place, Report};
+use st9::{Answer, Bound, Channel, Effect, Premise, RunError, Source, Wait, WaitError};
+
+/// An expectation and the words that it was said in.
+#[derive(Clone, Debug, PartialEq, Eq)]
+pub struct Expect {
+    /// The words after `expect`.
+    pub said: String,
+    /// What they mean.
+    pub what: Expected,
+    /// A byte among them that stands as two decimal digits, where hexadecimal may be meant.
+    pub decimal: Option<u8>,
+}
+
+/// What is expected. A number that is not said is not compared.
+#[derive(Clone, Debug, PartialEq, Eq)]
+pub enum Expected {
+    /// Of a read.
+    Byte(u8),
+    /// Of a write that erased no pending bit.
+    Written,
+    /// Of a write or a reset: exactly the pending bits that it erased, in the order of the sources.
+    Erased(Vec<Bit>),
+    /// Of a trigger: what it did to the bits that are named; every other one is not selected. Without a name it is the
+    /// one bit that the trigger selects.
+    Triggered(Vec<(Option<Bit>, Effect)>),
+    /// Of an arbitration that found nothing, and of a bound where any premise fails.
+    Nothing,
+    /// Of an arbitration.
+    TopLevel {
+        /// The vector.
+        vector: Option<u8>,
+    },
+    /// Of an arbitration.
+    Interrupt {
+        /// The source.
+        source: Source,
+        /// Its level.
+        level: Option<u8>,
+        /// Its vector.
+        vector: Option<u8>,
+    },
+    /// Of an arbitration.
+    Transferred {
+        /// The source.
+        source: Source,
+        /// Whether the block ended.
+        ended: bool,
+    },
+    /// Of a return.
+    Returned,
+    /// Of a reset.
+    Reset,
+    /// Of a step or a call.
+    Refused {
+        /// Document 01's number.
+        number: u8,
+        /// Of a run and a wait: the step.
+        step: Option<usize>,
+        /// Of a wait: the arbitrations made before it.
+        arbitrations: Option<u64>,
+    },
+    /// Of a run.
+    Done {
+        /// How many steps were done.
+        steps: usize,
+        /// The answer of the last.
+        last: Option<Box<Expected>>,
+    },
+    /// Of a wait; without numbers also of an arbitration that acknowledged anything.
+    Acknowledged {
+        /// By which arbitration.
+        arbitration: Option<u64>,
+        /// At which step.
+        step: Option<usize>,
+    },
+    /// Of a wait whose list ended first.
+    Never {
+        /// The arbitrations made.
+        arbitrations: Option<u64>,
+    },
+    /// Of a bound.
+    Within {
+        /// H + E + 1.
+        bound: u64,
+        /// H.
+        outranking: Option<u64>,
+        /// E.
+        triggers: Option<u64>,
+    },
+    /// Of a bound: the first premise that fails; the index in it is not looked at.
+    Fails {
+        /// Which.
+        premise: Premise,
+        /// At which step.
+        step: Option<usize>,
+    },
+    /// Of a view: its sixteen bytes.
+    Page(Vec<u8>),
+    /// Bits of a stored byte afterwards.
+    Stored {
+        /// The byte of the image.
+        place: Place,
+        /// What is stored there.
+        bits: Bits,
+    },
+    /// Exactly the bytes that changed, in the order of the image: the byte before where it is said, and after.
+    Changed(Vec<(Place, Option<u8>, u8)>),
+}
+
+/// What came: of a step or of a call.
+#[derive(Clone, Copy)]
+pub(crate) enum Came<'a> {
+    Step(&'a Report<'a>),
+    Call(&'a CallReport<'a>),
+}
+
+impl Came<'_> {
+    fn images(&self) -> (&[u8], &[u8], &[Channel]) {
+        match self {
+            Came::Step(report) => (report.before, report.after, report.channels),
+            Came::Call(report) => (report.before, &report.after, &report.case.channels),
+        }
+    }
+
+    fn changes(&self) -> Vec<Change> {
+        let (before, after, _) = self.images();
+        changes(before, after)
+    }
+}
+
+impl Expected {
+    /// Whether this came.
+    pub(crate) fn is_met(&self, came: Came) -> bool {
+        let (_, after, _) = came.images();
+        match (self, came) {
+            (Expected::Stored { place, bits }, _) => {
+                after.get(place.0).is_some_and(|byte| bits.are_in(*byte))
+            }
+            (Expected::Changed(expected), _) => {
+                let changes = came.changes();
+                let same =
+                    |(change, (place, before, after)): (&Change, &(Place, Option<u8>, u8))| {
+                        change.place == *place
+                            && before.is_none_or(|before| change.before == before)
+                            && change.after == *after
+                    };
+                changes.len() == expected.len() && changes.iter().zip(expected).all(same)
+            }
+            (_, Came::Step(report)) => self.is_met_by_step(report),
+            (_, Came::Call(report)) => self.is_met_by_call(report),
+        }
+    }
+
+    fn is_met_by_step(&self, report: &Report) -> bool {
+        let answer = match (self, report.answer) {
+            (Expected::Refused { number, step: None, arbitrations: None }, Err(refusal)) => {
+                return *number == refusal.number()
+            }
+            (_, Err(_)) => return false,
+            (_, Ok(answer)) => answer,
+        };
+        match (self, answer) {
+            (Expected::Byte(expected), Answer::Byte(byte)) => *expected == byte,
+            (Expected::Written, Answer::Written { .. }) => report.erased().is_empty(),
+            (Expected::Erased(bits), Answer::Written { .. } | Answer::Reset) => {
+                *bits == report.erased()
+            }
+            (Expected::Triggered(phrases), Answer::Triggered { .. }) => {
+                triggered(phrases, &report.effects())
+            }
+            (Expected::Nothing, Answer::Nothing) => true,
+            (Expected::TopLevel { vector }, Answer::TopLevel { vector: came }) => {
+                is_said(*vector, came)
+            }
+            (
+                Expected::Interrupt { source, level, vector },
+                Answer::Interrupt { source: winner, level: its_level, vector: its_vector },
+            ) => *source == winner && is_said(*level, its_level) && is_said(*vector, its_vector),
+            (
+                Expected::Transferred { source, ended },
+                Answer::Transferred { source: winner, ended: block_ended },
+            ) => *source == winner && *ended == block_ended,
+            (Expected::Returned, Answer::Returned) | (Expected::Reset, Answer::Reset) => true,
+            (Expected::Acknowledged { arbitration: None, step: None }, acknowledged) => {
+                matches!(acknowledged, Answer::Interrupt { .. } | Answer::TopLevel { .. })
+            }
+            _ => false,
+        }
+    }
+
+    fn is_met_by_call(&self, report: &CallReport) -> bool {
+        match &report.answer {
+            CallAnswer::Run { done: Ok(done), .. } => match self {
+                Expected::Done { steps, last } => {
+                    let met = |last: &Expected| match report.last() {
+                        Some(answer) => last.is_met_by_step(&answer),
+                        // Document 01: none for an empty list.
+                        None => *last == Expected::Nothing,
+                    };
+                    *steps == done.steps && last.as_deref().is_none_or(met)
+                }
+                _ => false,
+            },
+            CallAnswer::Wait(Ok(waited)) => self.is_met_by_wait(*waited, report),
+            CallAnswer::Bound(Ok(bound)) => self.is_met_by_bound(*bound, report),
+            CallAnswer::View(Ok(bytes)) => *self == Expected::Page(bytes.clone()),
+            _ => self.is_met_by_refusal(report),
+        }
+    }
+
+    fn is_met_by_wait(&self, waited: Wait, report: &CallReport) -> bool {
+        match (self, waited) {
+            (Expected::Acknowledged { arbitration, step }, Wait::Acknowledged { arbitrations }) => {
+                let at = step.is_none_or(|step| report.acknowledged_at() == Some(step));
+                is_said(*arbitration, arbitrations) && at
+            }
+            (
+                Expected::Interrupt { source, level: None, vector: None },
+                Wait::Acknowledged { .. },
+            ) => report.call == Call::Wait(*source),
+            (Expected::Never { arbitrations: expected }, Wait::Ended { arbitrations }) => {
+                is_said(*expected, arbitrations)
+            }
+            _ => false,
+        }
+    }
+
+    fn is_met_by_bound(&self, came: Bound, report: &CallReport) -> bool {
+        match (self, came) {
+            (
+                Expected::Within { bound, outranking, triggers },
+                Bound::Within { outranking: h, triggers: e, bound: by },
+            ) => *bound == by && is_said(*outranking, h) && is_said(*triggers, e),
+            (Expected::Nothing, Bound::Fails(_)) => true,
+            (Expected::Fails { premise, step }, Bound::Fails(failing)) => {
+                let kind = std::mem::discriminant(premise) == std::mem::discriminant(&failing);
+                let index = failing.index().map(|index| report.from + index);
+                kind && step.is_none_or(|step| index == Some(step))
+            }
+            _ => false,
+        }
+    }
+
+    fn is_met_by_refusal(&self, report: &CallReport) -> bool {
+        let Expected::Refused { number, step, arbitrations } = self else {
+            return false;
+        };
+        let Some(refusal) = report.refusal() else {
+            return false;
+        };
+        let (index, made) = match report.answer {
+            CallAnswer::Run { done: Err(RunError::Step { index, .. }), .. } => (Some(index), None),
+            CallAnswer::Wait(Err(WaitError::Step { index, arbitrations, .. })) => {
+                (Some(index), Some(arbitrations))
+            }
+            _ => (None, None),
+        };
+        let index = index.map(|index| report.from + index);
+        *number == refusal.number()
+            && step.is_none_or(|step| index == Some(step))
+            && arbitrations.is_none_or(|expected| made == Some(expected))
+    }
+
+    /// What came, in the words that this expectation is about.
+    pub(crate) fn came(&self, came: Came) -> String {
+        let (_, after, channels) = came.images();
+        match (self, came) {
+            (Expected::Stored { place, bits }, _) => match after.get(place.0) {
+                Some(byte) if bits.mask == 0xFF => {
+                    format!("{} {byte:02X}h", place.written())
+                }
+                Some(byte) => {
+                    let fields = place.role(channels).all_bits(*byte);
+                    format!("{} {byte:02X}h ({fields})", place.written())
+                }
+                None => format!("an image without {}", place.written()),
+            },
+            (Expected::Changed(_), _) => changed_words(&came.changes()),
+            (_, Came::Step(report)) => report.words(),
+            (_, Came::Call(report)) => report.words(),
+        }
+    }
+}
+
+fn is_said<T: PartialEq>(expected: Option<T>, came: T) -> bool {
+    expected.is_none_or(|expected| expected == came)
+}
+
+fn triggered(phrases: &[(Option<Bit>, Effect)], effects: &[(Bit, Effect)]) -> bool {
+    let selected: Vec<_> =
+        effects.iter().filter(|(_, effect)| *effect != Effect::NotSelected).collect();
+    let holds = |(bit, effect): &(Option<Bit>, Effect)| match bit {
+        Some(bit) => effects.contains(&(*bit, *effect)),
+        None if *effect == Effect::NotSelected => selected.is_empty(),
+        None => selected.len() == 1 && selected[0].1 == *effect,
+    };
+    let named = |bit: Bit| phrases.iter().any(|(named, _)| named.is_none_or(|named| named == bit));
+    phrases.iter().all(holds) && selected.iter().all(|(bit, _)| named(*bit))
+}
+
+/// `changed EIPR.p0 00h -> 10h, CICR 97h -> 87h`, as an expectation is written.
+pub(crate) fn changed_words(changes: &[Change]) -> String {
+    if changes.is_empty() {
+        return "changed nothing".to_string();
+    }
+    let one = |change: &Change| {
+        format!("{} {:02X}h -> {:02X}h", change.place.written(), change.before, change.after)
+    };
+    format!("changed {}", changes.iter().map(one).collect::<Vec<_>>().join(", "))
+}

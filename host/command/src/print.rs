@@ -1,0 +1,245 @@
+//! A case that is followed, printed as it goes: lines of words or objects.
+
+use crate::output::{Outcome, Output};
+use scenario::{
+    changes, counted, note, refused, refused_json, Account, Bit, CallReport, Case, Comparison, End,
+    Event, Followed, Loss, Names, Object, Report, Stored,
+};
+
+/// How a case is printed.
+#[derive(Clone, Copy)]
+pub struct Style {
+    pub json: bool,
+    pub quiet: bool,
+    pub verbose: bool,
+}
+
+/// What prints a case.
+pub struct Printer<'a> {
+    pub file: &'a str,
+    pub case: &'a Case,
+    pub style: Style,
+    pub output: &'a mut Output,
+}
+
+impl Printer<'_> {
+    fn line(&mut self, words: impl FnOnce() -> String, json: impl FnOnce() -> String) {
+        if self.output.is_open() {
+            self.output.line(&match self.style.json {
+                true => json(),
+                false => words(),
+            });
+        }
+    }
+
+    /// The case's title, and with --verbose what each `set` stored.
+    pub fn start(&mut self, first: bool, sets: &[(usize, Stored)]) {
+        if let Some(title) = &self.case.title {
+            if !first && !self.style.json {
+                self.output.line("");
+            }
+            let line = self.case.line as u64;
+            let object = || {
+                let object = Object::new().text("type", "case").number("line", line);
+                object.text("case", title).end()
+            };
+            self.line(|| format!("case {title}"), object);
+        }
+        if self.style.verbose {
+            let channels = &self.case.channels;
+            for (line, stored) in sets {
+                let words = || format!("set  line {line}: {}", stored.words(channels));
+                self.line(words, || stored.json(channels, Some(*line)));
+            }
+        }
+    }
+
+    pub fn event(&mut self, event: &Event) {
+        match event {
+            Event::Step(report, expected) => self.step(report, *expected),
+            Event::Call(report, expected) => self.call(report, *expected),
+            Event::Compared(comparison) => self.compared(comparison),
+        }
+    }
+
+    /// With --quiet a step or a call is printed where it ends the case: its refusal stands nowhere else.
+    fn step(&mut self, report: &Report, expected: bool) {
+        let ends = report.answer.is_err() && !expected;
+        if self.style.quiet && !ends {
+            return;
+        }
+        let width = self.width();
+        self.line(|| report.line(width), || report.json());
+        if self.style.verbose {
+            self.changes(report.before, report.after, Some(report.index));
+        }
+    }
+
+    /// The columns of a step's index.
+    fn width(&self) -> usize {
+        self.case.steps.len().saturating_sub(1).to_string().len()
+    }
+
+    fn call(&mut self, report: &CallReport, expected: bool) {
+        let ends = report.refusal().is_some() && !expected;
+        if self.style.quiet && !ends {
+            return;
+        }
+        let width = self.width();
+        self.line(
+            || format!("{:width$}  {:<20}  {}", "", report.statement(), report.words()),
+            || report.json(),
+        );
+    }
+
+    fn compared(&mut self, comparison: &Comparison) {
+        let Comparison { line, said, met, came, statement } = comparison;
+        // A met one is told in objects alone.
+        if *met && (self.style.quiet || !self.style.json) {
+            return;
+        }
+        let file = self.file;
+        let object = || {
+            let object = Object::new().text("type", "expectation").text("file", file);
+            let object = object.number("line", (*line).into()).text("statement", statement);
+            object.text("expected", said).truth("met", *met).text("came", came).end()
+        };
+        self.line(|| format!("{file}:{line}: expected {said}; came {came}"), object);
+    }
+
+    /// The changes of a step, or of the whole case.
+    fn changes(&mut self, before: &[u8], after: &[u8], step: Option<usize>) {
+        let (channels, names) = (&self.case.channels, &self.case.names);
+        let start = if step.is_some() { "    changed  " } else { "changed  " };
+        for change in changes(before, after) {
+            let words = || format!("{start}{}", change.words(channels, names));
+            self.line(words, || change.json(channels, step));
+        }
+    }
+
+    /// What the case left: changed registers, the account, how it ended. What `--fail-on` names and was met is told.
+    pub fn end(&mut self, start: &[u8], followed: &Followed, fail_on: &[Loss]) -> Outcome {
+        self.changes(start, &followed.image, None);
+        if start == followed.image && !self.style.json {
+            self.output.line(match followed.changed {
+                true => "every register as at the start",
+                false => "no register changed",
+            });
+        }
+        self.account(followed);
+        let failed = failed(followed, fail_on, &self.case.names);
+        self.result(followed, &failed);
+        match followed.end {
+            End::Done if followed.unmet == 0 && failed.is_empty() => Outcome::Done,
+            End::Done => Outcome::Failed,
+            _ => Outcome::Refused,
+        }
+    }
+
+    fn account(&mut self, followed: &Followed) {
+        let (case, names) = (self.case, &self.case.names);
+        let rows: Vec<_> = followed.account.iter().flat_map(Account::rows).collect();
+        let told = |bit: &Bit| bit.told(names);
+        let width = rows.iter().map(|(bit, _)| told(bit).len()).max().unwrap_or_default();
+        for (bit, row) in &rows {
+            self.line(
+                || format!("account  {:<width$}  {}", told(bit), row.words(case)),
+                || row.json(*bit, names),
+            );
+        }
+        if rows.is_empty() && !self.style.json {
+            self.output.line(match followed.account {
+                Some(_) => "account  nothing was pending or triggered",
+                None => "account  none: the image is refused",
+            });
+        }
+    }
+
+    fn result(&mut self, followed: &Followed, failed: &[(Loss, String)]) {
+        let case = self.case;
+        if let Some(note) = followed
+            .end
+            .refusal()
+            .or(followed.lent)
+            .and_then(|refusal| note(refusal, case, followed.image.len()))
+        {
+            let object = || Object::new().text("type", "note").text("note", &note).end();
+            self.line(|| format!("note: {note}"), object);
+        }
+        if self.style.json {
+            self.output.line(&result_json(followed, case, failed));
+            return;
+        }
+        self.output.line(&end_words(followed, case));
+        if let Some(words) = expectations_words(followed) {
+            self.output.line(&words);
+        }
+        for (loss, bits) in failed {
+            self.output.line(&format!("failed on {}: {bits}", loss.name()));
+        }
+    }
+}
+
+/// What `--fail-on` names and was met, with the bits.
+pub fn failed(followed: &Followed, fail_on: &[Loss], names: &Names) -> Vec<(Loss, String)> {
+    let told = |loss: &Loss| {
+        let bits = followed.account.iter().flat_map(|account| account.met(*loss));
+        (*loss, bits.map(|bit| bit.told(names)).collect::<Vec<_>>().join(", "))
+    };
+    fail_on.iter().map(told).filter(|(_, bits)| !bits.is_empty()).collect()
+}
+
+/// How a case ended, in words.
+pub fn end_words(followed: &Followed, case: &Case) -> String {
+    let done = counted(followed.done as u64, "step");
+    let refused_too = match followed.refused {
+        0 => String::new(),
+        refused => format!(", {refused} refused as expected"),
+    };
+    let place = match followed.end {
+        End::Done => return format!("done: {done}{refused_too}"),
+        End::Before(refusal) => return format!("{}, before any step", refused(refusal)),
+        End::Step { index, .. } => format!("step {index} (line {})", case.line_of(index)),
+        End::Call { line, .. } => format!("line {line}"),
+    };
+    let at_step = usize::from(matches!(followed.end, End::Step { .. }));
+    let rest = match case.steps.len() - followed.done - followed.refused - at_step {
+        0 => String::new(),
+        rest => format!(", {rest} not done"),
+    };
+    format!("ended by the refusal at {place}: {done} done{refused_too}{rest}")
+}
+
+/// How many expectations are met; none where there are none.
+pub fn expectations_words(followed: &Followed) -> Option<String> {
+    let Followed { met, unmet, not_reached, .. } = followed;
+    let others = [(*unmet, "unmet"), (*not_reached, "not reached")];
+    let others = others.iter().filter(|(count, _)| *count != 0);
+    let others: String = others.map(|(count, what)| format!(", {count} {what}")).collect();
+    match met + unmet + not_reached {
+        0 => None,
+        _ => Some(format!("expectations: {met} met{others}")),
+    }
+}
+
+fn result_json(followed: &Followed, case: &Case, failed: &[(Loss, String)]) -> String {
+    let object = Object::new().text("type", "result");
+    let object = match followed.end {
+        End::Done => object.text("result", "done"),
+        End::Before(refusal) => refused_json(object, refusal, case, None),
+        End::Step { refusal, index } => refused_json(object, refusal, case, Some(index)),
+        End::Call { refusal, line } => object
+            .text("result", "refused")
+            .refusal(refusal)
+            .optional("step", None)
+            .number("line", line.into()),
+    };
+    object
+        .number("steps", followed.done as u64)
+        .number("refused_as_expected", followed.refused as u64)
+        .number("met", followed.met as u64)
+        .number("unmet", followed.unmet as u64)
+        .number("not_reached", followed.not_reached as u64)
+        .texts("failed_on", failed.iter().map(|(loss, _)| loss.name()))
+        .end()
+}

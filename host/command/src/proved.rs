@@ -1,0 +1,41 @@
+//! The proved model, as scenarios call it.
+
+use scenario::Model;
+use st9::{Answer, Bound, Channel, Done, Refusal, RunError, Source, Step, Wait, WaitError};
+
+/// The library `st9`.
+pub struct Proved;
+
+impl Model for Proved {
+    fn step(&self, image: &mut [u8], channels: &[Channel], step: Step) -> Result<Answer, Refusal> {
+        st9::step(image, channels, step)
+    }
+
+    fn run(&self, image: &mut [u8], channels: &[Channel], words: &[u64]) -> Result<Done, RunError> {
+        st9::run(image, channels, words)
+    }
+
+    fn wait(
+        &self,
+        image: &mut [u8],
+        channels: &[Channel],
+        source: Source,
+        words: &[u64],
+    ) -> Result<Wait, WaitError> {
+        st9::wait(image, channels, source, words)
+    }
+
+    fn bound(
+        &self,
+        image: &[u8],
+        channels: &[Channel],
+        source: Source,
+        words: &[u64],
+    ) -> Result<Bound, Refusal> {
+        st9::bound(image, channels, source, words)
+    }
+
+    fn view<'a>(&self, image: &'a [u8], page: u32) -> Result<&'a [u8], Refusal> {
+        st9::view(image, page)
+    }
+}
