@@ -5,16 +5,20 @@
 mod support;
 
 use std::fs::{self, File};
+use std::io::{BufRead, BufReader, Read};
 use std::os::unix::fs::{symlink, PermissionsExt};
 use std::path::{Path, PathBuf};
-use std::process::Command;
+use std::process::{Child, ChildStderr, Command, Output, Stdio};
 use std::sync::{Mutex, MutexGuard, PoisonError};
-use std::time::{Duration, SystemTime};
-use support::{folder, root, Ran};
+use std::thread::sleep;
+use std::time::{Duration, Instant, SystemTime};
+use support::{folder, root, st9, Ran};
 
-/// What the script itself calls; everything else is a stub or missing.
-const SYSTEM: [&str; 10] =
-    ["bash", "dirname", "readlink", "find", "touch", "mkdir", "mv", "cp", "flock", "sleep"];
+/// What the script itself and the stubs call; everything else is a stub or missing.
+const SYSTEM: [&str; 12] = [
+    "bash", "dirname", "readlink", "find", "touch", "mkdir", "mv", "cp", "flock", "sleep", "cat",
+    "tail",
+];
 
 /// Each stub tells its call. That of rt can edit a source while it builds.
 const RT: &str = "#!/bin/sh
@@ -26,18 +30,31 @@ const CARGO: &str = "#!/bin/sh
 echo \"cargo $1 in $PWD\" >> \"$CALLS\"
 mkdir -p target/release && cp \"${CALLS%/*}/binary\" target/release/st9
 ";
+/// A part of a stub: goes on once the test says so with the file `go`, and fails where the test never does.
+const PAUSE: &str = "tries=0
+until [ -e \"${CALLS%/*}/go\" ]; do
+    [ $((tries += 1)) -le 600 ] || exit 1
+    sleep 0.05
+done
+";
 const BINARY: &str = "#!/bin/sh\nfor word; do echo \"<$word>\"; done\necho \"$PWD\"\nexit 1\n";
 
 /// None has the name of a source of Rattle: the gate refuses such files outside of the crates.
-const SOURCES: [&str; 7] = [
+const SOURCES: [&str; 9] = [
     "crates.txt",
     "crates/source",
     "host/Cargo.toml",
     "host/Cargo.lock",
     "host/st9/src/lib.rs",
     "host/command/src/main.rs",
+    USAGE,
+    TOPIC,
     "host/st9/build.rs",
 ];
+
+const USAGE: &str = "host/command/src/help/usage.txt";
+const TOPIC: &str = "host/command/src/help/expect.txt";
+const LOG: &str = "host/target/st9-build.log";
 
 /// One test at a time: a file that is being written when another test starts a process cannot be run for a moment.
 static ALONE: Mutex<()> = Mutex::new(());
@@ -58,6 +75,9 @@ impl Checkout {
             let file = checkout.root.join(source);
             fs::create_dir_all(file.parent().expect("a folder")).expect("the folder is made");
             fs::write(&file, "").expect("a source");
+        }
+        for text in [USAGE, TOPIC] {
+            fs::copy(root().join(text), checkout.root.join(text)).expect("a text of the help");
         }
         checkout.age();
         fs::copy(root().join("st9"), checkout.root.join("st9")).expect("the script");
@@ -96,20 +116,46 @@ impl Checkout {
         }
     }
 
-    fn run(&self, script: &Path, edit: &str) -> Ran {
-        let output = Command::new(script)
-            .args(["run", "a b", "*"])
+    fn script(&self, script: &Path, arguments: &[&str]) -> Command {
+        let mut command = Command::new(script);
+        command
+            .args(arguments)
             .current_dir(self.root.join("crates"))
             .env("PATH", self.root.join("tools"))
             .env("CALLS", self.root.join("calls"))
-            .env("EDIT", edit)
-            .output()
+            .env("EDIT", "");
+        command
+    }
+
+    fn run(&self, script: &Path, edit: &str) -> Ran {
+        let mut command = self.script(script, &ARGUMENTS);
+        ran(command.env("EDIT", edit).output().expect("the script starts"))
+    }
+
+    fn call(&self, arguments: &[&str]) -> Ran {
+        let mut command = self.script(&self.root.join("st9"), arguments);
+        ran(command.output().expect("the script starts"))
+    }
+
+    fn start(&self) -> Started {
+        let mut child = self
+            .script(&self.root.join("st9"), &ARGUMENTS)
+            .stdin(Stdio::null())
+            .stdout(Stdio::piped())
+            .stderr(Stdio::piped())
+            .spawn()
             .expect("the script starts");
-        Ran {
-            code: output.status.code(),
-            out: String::from_utf8_lossy(&output.stdout).into_owned(),
-            err: String::from_utf8_lossy(&output.stderr).into_owned(),
-        }
+        let err = BufReader::new(child.stderr.take().expect("standard error is a pipe"));
+        Started { child, err }
+    }
+
+    /// Lets a stub go on that pauses.
+    fn go(&self) {
+        fs::write(self.root.join("go"), "").expect("a file");
+    }
+
+    fn set_rt(&self, stub: &str) {
+        fs::write(self.root.join("tools/rt"), stub).expect("the stub");
     }
 
     /// Runs the script; the command gets its arguments and folder, and its exit code is the script's.
@@ -131,12 +177,43 @@ impl Checkout {
     }
 }
 
+/// A call of the script that is under way.
+struct Started {
+    child: Child,
+    err: BufReader<ChildStderr>,
+}
+
+impl Started {
+    /// The next line of standard error, without its end; empty where there is none.
+    fn line(&mut self) -> String {
+        let mut line = String::new();
+        self.err.read_line(&mut line).expect("a line");
+        line.trim_end_matches('\n').to_string()
+    }
+
+    /// The end of the call, with what of standard error was not read yet.
+    fn ended(mut self) -> Ran {
+        let mut err = String::new();
+        self.err.read_to_string(&mut err).expect("standard error");
+        Ran { err, ..ran(self.child.wait_with_output().expect("the script ends")) }
+    }
+}
+
+fn ran(output: Output) -> Ran {
+    Ran {
+        code: output.status.code(),
+        out: String::from_utf8_lossy(&output.stdout).into_owned(),
+        err: String::from_utf8_lossy(&output.stderr).into_owned(),
+    }
+}
+
 fn found(tool: &str) -> Option<PathBuf> {
     let path = std::env::var_os("PATH")?;
     let mut files = std::env::split_paths(&path).map(|folder| folder.join(tool));
     files.find(|file| file.is_file())
 }
 
+const ARGUMENTS: [&str; 3] = ["run", "a b", "*"];
 const BOTH: [&str; 2] = ["rt staticlib st9 in .", "cargo build in ./host"];
 
 #[test]
@@ -217,4 +294,172 @@ fn a_build_that_fails_is_exit_code_2() {
         fs::write(&file, stub).expect("the stub");
     }
     checkout.runs();
+}
+
+#[test]
+fn help_before_the_first_build_is_the_usage() {
+    let checkout = Checkout::new("script-help");
+    let usage = st9(&["help"], "").with_code(0).out;
+    let help = checkout.call(&["help"]).with_code(0);
+    let note = help.out.strip_prefix(usage.as_str()).expect("the usage comes first");
+    for words in ["not built yet", "run, test, wait or show", "minutes", "rt, cargo and cc"] {
+        assert!(note.contains(words), "{note}");
+    }
+    assert_eq!(help.err, "");
+    for arguments in [&["--help"][..], &["-h"], &["help", "run"], &["run", "a", "-h"], &["-h", "x"]]
+    {
+        let ran = checkout.call(arguments).with_code(0);
+        assert_eq!((&ran.out, ran.err.as_str()), (&help.out, ""), "{arguments:?}");
+    }
+    let topic = st9(&["help", "expect"], "").with_code(0).out;
+    let ran = checkout.call(&["help", "expect"]).with_code(0);
+    assert_eq!((ran.out, ran.err.as_str()), (format!("{topic}{note}"), ""));
+    // Nothing that is no command starts a build.
+    for arguments in [&[][..], &[""], &["walk"], &["--version"]] {
+        let ran = checkout.call(arguments).with_code(2);
+        assert_eq!((ran.out.as_str(), &ran.err), ("", &help.out), "{arguments:?}");
+    }
+    assert_eq!(checkout.calls(), [""; 0]);
+    assert!(!checkout.root.join("host/target").exists());
+    for (command, calls) in [("show", &BOTH[..]), ("test", &[]), ("wait", &[])] {
+        let ran = checkout.call(&[command]).with_code(1);
+        assert!(ran.out.starts_with(&format!("<{command}>\n")), "{}", ran.out);
+        assert_eq!(checkout.calls(), calls);
+    }
+}
+
+#[test]
+fn help_is_the_binarys_once_there_is_one() {
+    let checkout = Checkout::new("script-help-built");
+    checkout.runs();
+    assert_eq!(checkout.calls(), BOTH);
+    let here = format!("{}\n", checkout.root.join("crates").display());
+    for (arguments, words) in
+        [(&["help"][..], "<help>\n"), (&["-h", "x"], "<-h>\n<x>\n"), (&[], "")]
+    {
+        let ran = checkout.call(arguments).with_code(1);
+        assert_eq!((ran.out, ran.err.as_str()), (format!("{words}{here}"), ""));
+        assert_eq!(checkout.calls(), [""; 0]);
+    }
+    // An old binary is built again, as for every other word.
+    checkout.age();
+    fs::write(checkout.root.join("host/command/src/main.rs"), "x").expect("a file");
+    assert_eq!(checkout.call(&["--help"]).with_code(1).out, format!("<--help>\n{here}"));
+    assert_eq!(checkout.calls(), BOTH[1..]);
+}
+
+/// Needed are st9, middle, lower and base: `io` is no crate of the list, and nothing that st9 needs has `other`.
+const CRATES: &str = "# st9: other
+base:
+other: base report
+
+ st9 : middle base # not other
+middle: io\tlower base
+lower:base
+report: io
+";
+
+/// What rt prints of these crates: first what is on its standard error, then what is on its standard output.
+const PRINTED: [&str; 2] = [
+    "fn base::one: proved
+library std: modules loaded=0 checked=0
+logic=proved functions=1 sum=097e4c862dff5811 native=nat,char,string
+rt: base proved (unchanged since it was last proved)
+note: no function with a body is declared, so nothing was lowered
+enum lower::Place: proved
+rt: lower proved (4 s)
+fn middle::two: proved
+rt: middle proved (28 s)
+",
+    "fn st9::read: proved
+  a line with blanks and a \\ in it
+rt: target/staticlib/libst9.a has the functions of st9 that are marked #[no_mangle] pub extern \"C\"
+",
+];
+
+/// A stub of rt that prints two texts, pauses between them, and ends with the lines given.
+fn printing_rt([first, second]: [&str; 2], end: &str) -> String {
+    format!("{RT}cat >&2 <<'END'\n{first}END\n{PAUSE}cat <<'END'\n{second}END\n{end}")
+}
+
+#[test]
+fn says_a_line_a_crate_as_they_are_proved() {
+    let checkout = Checkout::new("script-crates");
+    fs::write(checkout.root.join("crates.txt"), CRATES).expect("the list");
+    checkout.set_rt(&printing_rt(PRINTED, ""));
+    let mut started = checkout.start();
+    assert!(started.line().starts_with("st9: proving and compiling the model"));
+    // rt pauses before its end, so these lines come while it runs.
+    for line in [
+        "1 of 4: base proved (unchanged)",
+        "2 of 4: lower proved (4 s)",
+        "3 of 4: middle proved (28 s)",
+    ] {
+        assert_eq!(started.line(), format!("st9: crate {line}"));
+    }
+    checkout.go();
+    let last = started.line();
+    assert!(last.starts_with("st9: crate 4 of 4: st9 proved and compiled ("), "{last}");
+    assert_eq!(started.line(), "st9: compiling the command (cargo build --release)");
+    let ran = started.ended();
+    assert_eq!(ran.err, "");
+    checkout.assert_ran(ran);
+    assert_eq!(checkout.calls(), BOTH);
+    let log = fs::read_to_string(checkout.root.join(LOG)).expect("the log");
+    assert_eq!(log, PRINTED.concat());
+}
+
+#[test]
+fn a_model_that_is_not_proved_shows_the_end_of_the_log() {
+    let checkout = Checkout::new("script-log");
+    fs::write(checkout.root.join("crates.txt"), CRATES).expect("the list");
+    // Crates that are proved after the one that is not can have more lines than are shown.
+    let notes: Vec<_> = (1..=40).map(|number| format!("note: number {number}")).collect();
+    let failed = "base NOT PROVED (exit 1, 2 s)";
+    let printed = format!("rt: {failed}\n{}\n", notes.join("\n"));
+    // Its exit status decides, whatever it wrote and printed.
+    checkout.set_rt(&printing_rt([&printed, PRINTED[1]], "exit 3\n"));
+    checkout.go();
+    let ran = checkout.call(&ARGUMENTS).with_code(2);
+    assert_eq!(ran.out, "");
+    let lines: Vec<_> = ran.err.lines().collect();
+    let (last, lines) = lines.split_last().expect("a line");
+    assert_eq!(*last, "st9: the model could not be built");
+    let (before, shown) = lines.split_at(lines.len() - 30);
+    let log = fs::canonicalize(checkout.root.join(LOG)).expect("the log");
+    let name = format!("{}", log.display());
+    assert!(before.last().is_some_and(|line| line.contains(&name)), "{before:?}");
+    assert!(before.iter().all(|line| line.starts_with("st9: ")), "{before:?}");
+    assert_eq!(before[1], format!("st9: crate 1 of 4: {failed}"));
+    let all = format!("{printed}{}", PRINTED[1]);
+    assert_eq!(fs::read_to_string(&log).expect("the log"), all);
+    assert_eq!(shown, &all.lines().collect::<Vec<_>>()[all.lines().count() - 30..]);
+    assert_eq!(checkout.calls(), BOTH[..1]);
+}
+
+#[test]
+fn a_call_during_a_build_waits_and_says_so() {
+    // Without flock the script does not wait.
+    if found("flock").is_none() {
+        return;
+    }
+    let checkout = Checkout::new("script-wait");
+    checkout.set_rt(&format!("{RT}{PAUSE}"));
+    let first = checkout.start();
+    let until = Instant::now() + Duration::from_secs(30);
+    while !checkout.root.join("calls").exists() {
+        assert!(Instant::now() < until, "the first call does not build");
+        sleep(Duration::from_millis(10));
+    }
+    let mut second = checkout.start();
+    assert_eq!(second.line(), "st9: another call is building; waiting for it");
+    assert!(second.child.try_wait().expect("its state").is_none());
+    checkout.go();
+    let first = first.ended();
+    assert!(!first.err.contains("waiting"), "{}", first.err);
+    checkout.assert_ran(first);
+    let second = second.ended();
+    assert_eq!(second.err, "");
+    checkout.assert_ran(second);
+    assert_eq!(checkout.calls(), BOTH);
 }
