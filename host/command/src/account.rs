@@ -54,7 +54,7 @@ pub enum Loss {
 }
 
 /// The account of a run.
-#[derive(Clone, Debug, PartialEq, Eq)]
+#[derive(Clone, Debug, Default, PartialEq, Eq)]
 pub struct Account {
     rows: [Row; MOST_SOURCES + 1],
 }
@@ -161,20 +161,14 @@ impl Loss {
 }
 
 impl Row {
-    fn has(&self, loss: Loss) -> bool {
+    /// Whether it met a loss.
+    pub fn has(&self, loss: Loss) -> bool {
         match loss {
             Loss::Erased => !self.erased.is_empty(),
             Loss::Merged => self.merged != 0,
             Loss::Pending => self.pending,
             Loss::Unselected => self.unselected != 0,
         }
-    }
-
-    /// The balance of the row: what was set at the start or raised was acknowledged, served, erased or is still pending.
-    pub fn balances(&self) -> bool {
-        let came = u64::from(self.at_start) + self.raised + self.blocks;
-        let went = self.acknowledged + self.served + self.erased.len() as u64;
-        came == went + u64::from(self.pending)
     }
 
     /// `raised 2, acknowledged 1, erased 1 (line 16: write EIPR 00h)`.

@@ -83,11 +83,13 @@ impl Reader<'_> {
             return Err(format!("the line ends too early: expected {EXPECTATIONS}"));
         };
         let keyword = first.to_ascii_lowercase();
-        if let b"raised" | b"merged" = &keyword[..] {
-            return self.triggered();
-        }
+        let whole = self.words.0;
         self.words.optional();
         match &keyword[..] {
+            b"raised" | b"merged" => {
+                self.words.0 = whole;
+                self.triggered()
+            }
             b"byte" => Ok(Expected::Byte(self.byte()?)),
             b"written" => Ok(Expected::Written),
             b"erased" => self.erased(),
@@ -103,7 +105,10 @@ impl Reader<'_> {
             b"not" => self.not(),
             b"bytes" => self.page(),
             b"changed" => self.changed(),
-            _ => self.bit_or_register(first),
+            _ => {
+                self.words.0 = whole;
+                self.bit_or_register()
+            }
         }
     }
 
@@ -416,16 +421,14 @@ impl Reader<'_> {
     }
 
     /// `INTB0 not selected`, or a register and its byte or fields.
-    fn bit_or_register(&mut self, first: &[u8]) -> Result<Expected, Problem> {
-        let not = |word: &&[u8]| word.eq_ignore_ascii_case(b"not");
-        if self.words.0.first().is_some_and(not) || first.eq_ignore_ascii_case(b"channel") {
-            let words: Vec<_> =
-                std::iter::once(first).chain(self.words.0.iter().copied()).collect();
-            let mut again = Reader { words: Arguments(&words), names: self.names, decimal: None };
-            let triggered = again.triggered();
-            self.words.0 = &[];
-            return triggered;
+    fn bit_or_register(&mut self) -> Result<Expected, Problem> {
+        let is = |position: usize, word: &[u8]| {
+            self.words.0.get(position).is_some_and(|next| next.eq_ignore_ascii_case(word))
+        };
+        if is(0, b"channel") || is(1, b"not") {
+            return self.triggered();
         }
+        let first = self.words.next(EXPECTATIONS)?;
         if !is_place(first) {
             return Err(expected(EXPECTATIONS, first));
         }

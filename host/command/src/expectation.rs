@@ -3,6 +3,7 @@
 use crate::calls::{CallAnswer, CallReport};
 use crate::changes::{changes, Change};
 use crate::fields::Bits;
+use crate::number::hex;
 use crate::pending::Bit;
 use crate::{Call, Place, Report};
 use st9::{Answer, Bound, Channel, Effect, Premise, RunError, Source, Wait, WaitError};
@@ -273,12 +274,10 @@ impl Expected {
         let (_, after, channels) = came.images();
         match (self, came) {
             (Expected::Stored { place, bits }, _) => match after.get(place.0) {
-                Some(byte) if bits.mask == 0xFF => {
-                    format!("{} {byte:02X}h", place.written())
-                }
+                Some(byte) if bits.mask == 0xFF => format!("{} {}", place.written(), hex(*byte)),
                 Some(byte) => {
                     let fields = place.role(channels).all_bits(*byte);
-                    format!("{} {byte:02X}h ({fields})", place.written())
+                    format!("{} {} ({fields})", place.written(), hex(*byte))
                 }
                 None => format!("an image without {}", place.written()),
             },
@@ -305,13 +304,13 @@ fn triggered(phrases: &[(Option<Bit>, Effect)], effects: &[(Bit, Effect)]) -> bo
     phrases.iter().all(holds) && selected.iter().all(|(bit, _)| named(*bit))
 }
 
-/// `changed EIPR.p0 00h -> 10h, CICR 97h -> 87h`, as an expectation is written.
-pub(crate) fn changed_words(changes: &[Change]) -> String {
+/// `changed EIPR 00h -> 10h, CICR 97h -> 87h`, as an expectation is written.
+fn changed_words(changes: &[Change]) -> String {
     if changes.is_empty() {
         return "changed nothing".to_string();
     }
     let one = |change: &Change| {
-        format!("{} {:02X}h -> {:02X}h", change.place.written(), change.before, change.after)
+        format!("{} {} -> {}", change.place.written(), hex(change.before), hex(change.after))
     };
     format!("changed {}", changes.iter().map(one).collect::<Vec<_>>().join(", "))
 }

@@ -5,7 +5,7 @@ use crate::answers::Report;
 use crate::calls::{CallReport, Made, Model};
 use crate::expectation::{Came, Expect, Expected};
 use crate::pending::Pending;
-use crate::{Ask, Asked, Call, Case};
+use crate::{Ask, Asked, Call, Case, Object};
 use st9::{Channel, Refusal, RunError};
 
 /// What is told while a case is followed.
@@ -31,6 +31,21 @@ pub struct Comparison {
     pub came: String,
     /// The statement that it is about.
     pub statement: String,
+}
+
+impl Comparison {
+    /// The expectation as an object.
+    pub fn json(&self, file: &str) -> String {
+        Object::new()
+            .text("type", "expectation")
+            .text("file", file)
+            .number("line", self.line.into())
+            .text("statement", &self.statement)
+            .text("expected", &self.said)
+            .truth("met", self.met)
+            .text("came", &self.came)
+            .end()
+    }
 }
 
 /// How a case ended.

@@ -3,7 +3,7 @@
 use crate::output::{Outcome, Output};
 use scenario::{
     changes, counted, note, refused, refused_json, Account, Bit, CallReport, Case, Comparison, End,
-    Event, Followed, Loss, Names, Object, Report, Stored,
+    Event, Followed, Loss, Names, Object, Report, Row, Stored,
 };
 
 /// How a case is printed.
@@ -34,17 +34,7 @@ impl Printer<'_> {
 
     /// The case's title, and with --verbose what each `set` stored.
     pub fn start(&mut self, first: bool, sets: &[(usize, Stored)]) {
-        if let Some(title) = &self.case.title {
-            if !first && !self.style.json {
-                self.output.line("");
-            }
-            let line = self.case.line as u64;
-            let object = || {
-                let object = Object::new().text("type", "case").number("line", line);
-                object.text("case", title).end()
-            };
-            self.line(|| format!("case {title}"), object);
-        }
+        print_title(self.case, first, self.style.json, self.output);
         if self.style.verbose {
             let channels = &self.case.channels;
             for (line, stored) in sets {
@@ -93,18 +83,14 @@ impl Printer<'_> {
     }
 
     fn compared(&mut self, comparison: &Comparison) {
-        let Comparison { line, said, met, came, statement } = comparison;
+        let Comparison { line, said, met, came, .. } = comparison;
         // A met one is told in objects alone.
         if *met && (self.style.quiet || !self.style.json) {
             return;
         }
         let file = self.file;
-        let object = || {
-            let object = Object::new().text("type", "expectation").text("file", file);
-            let object = object.number("line", (*line).into()).text("statement", statement);
-            object.text("expected", said).truth("met", *met).text("came", came).end()
-        };
-        self.line(|| format!("{file}:{line}: expected {said}; came {came}"), object);
+        let words = || format!("{file}:{line}: expected {said}; came {came}");
+        self.line(words, || comparison.json(file));
     }
 
     /// The changes of a step, or of the whole case.
@@ -137,16 +123,8 @@ impl Printer<'_> {
     }
 
     fn account(&mut self, followed: &Followed) {
-        let (case, names) = (self.case, &self.case.names);
         let rows: Vec<_> = followed.account.iter().flat_map(Account::rows).collect();
-        let told = |bit: &Bit| bit.told(names);
-        let width = rows.iter().map(|(bit, _)| told(bit).len()).max().unwrap_or_default();
-        for (bit, row) in &rows {
-            self.line(
-                || format!("account  {:<width$}  {}", told(bit), row.words(case)),
-                || row.json(*bit, names),
-            );
-        }
+        print_rows(&rows, self.case, self.style.json, self.output);
         if rows.is_empty() && !self.style.json {
             self.output.line(match followed.account {
                 Some(_) => "account  nothing was pending or triggered",
@@ -157,15 +135,9 @@ impl Printer<'_> {
 
     fn result(&mut self, followed: &Followed, failed: &[(Loss, String)]) {
         let case = self.case;
-        if let Some(note) = followed
-            .end
-            .refusal()
-            .or(followed.lent)
-            .and_then(|refusal| note(refusal, case, followed.image.len()))
-        {
-            let object = || Object::new().text("type", "note").text("note", &note).end();
-            self.line(|| format!("note: {note}"), object);
-        }
+        let refusal = followed.end.refusal().or(followed.lent);
+        let note = refusal.and_then(|refusal| note(refusal, case, followed.image.len()));
+        note.iter().for_each(|note| print_note(note, self.style.json, self.output));
         if self.style.json {
             self.output.line(&result_json(followed, case, failed));
             return;
@@ -177,6 +149,40 @@ impl Printer<'_> {
         for (loss, bits) in failed {
             self.output.line(&format!("failed on {}: {bits}", loss.name()));
         }
+    }
+}
+
+/// The title of a case, if it has one.
+pub fn print_title(case: &Case, first: bool, json: bool, output: &mut Output) {
+    let Some(title) = &case.title else { return };
+    if json {
+        let object = Object::new().text("type", "case").number("line", case.line as u64);
+        return output.line(&object.text("case", title).end());
+    }
+    if !first {
+        output.line("");
+    }
+    output.line(&format!("case {title}"));
+}
+
+/// What the command can tell beside a refusal.
+pub fn print_note(note: &str, json: bool, output: &mut Output) {
+    output.line(&match json {
+        true => Object::new().text("type", "note").text("note", note).end(),
+        false => format!("note: {note}"),
+    });
+}
+
+/// The rows of an account, a line each.
+pub fn print_rows(rows: &[(Bit, &Row)], case: &Case, json: bool, output: &mut Output) {
+    let names = &case.names;
+    let told = |bit: &Bit| bit.told(names);
+    let width = rows.iter().map(|(bit, _)| told(bit).len()).max().unwrap_or_default();
+    for (bit, row) in rows {
+        output.line(&match json {
+            true => row.json(*bit, names),
+            false => format!("account  {:<width$}  {}", told(bit), row.words(case)),
+        });
     }
 }
 

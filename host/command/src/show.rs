@@ -3,6 +3,7 @@
 use crate::arguments::Show;
 use crate::input;
 use crate::output::{Failure, Outcome, Output};
+use crate::print::print_note;
 use scenario::{named_registers, printable, refused, Object, Place, Stored};
 use st9::Refusal;
 use std::os::unix::ffi::OsStrExt;
@@ -49,10 +50,7 @@ fn print(stored: Stored, json: bool, output: &mut Output) {
 fn print_refused(options: &Show, refusal: Refusal, length: usize, output: &mut Output) {
     if refusal == Refusal::ImageLength {
         let note = format!("{} has {length} bytes", printable(options.image.as_bytes()));
-        output.line(&match options.json {
-            true => Object::new().text("type", "note").text("note", &note).end(),
-            false => format!("note: {note}"),
-        });
+        print_note(&note, options.json, output);
     }
     let object = || Object::new().text("type", "result").text("result", "refused").refusal(refusal);
     output.line(&match options.json {

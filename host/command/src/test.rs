@@ -4,7 +4,7 @@ use crate::arguments::Test;
 use crate::counts::{unexpected, Counts};
 use crate::input::{self, Loaded, Start};
 use crate::output::{complain, Failure, Outcome, Output};
-use crate::print::{end_words, failed};
+use crate::print::{end_words, failed, print_note};
 use crate::proved::Proved;
 use scenario::{
     counted, follow, note, quoted, refused, Case, Comparison, End, Event, Followed, Object,
@@ -168,12 +168,7 @@ impl Told<'_> {
 
     fn json(&self, unmet: &[Comparison], losses: &[(scenario::Loss, String)], output: &mut Output) {
         let Told { loaded, case, followed, passed } = self;
-        for Comparison { line, said, came, statement, .. } in unmet {
-            let object = Object::new().text("type", "expectation").text("file", &loaded.file);
-            let object = object.number("line", (*line).into()).text("statement", statement);
-            output
-                .line(&object.text("expected", said).truth("met", false).text("came", came).end());
-        }
+        unmet.iter().for_each(|unmet| output.line(&unmet.json(&loaded.file)));
         for (index, erased) in &followed.unexpected {
             let Some(step) = case.steps.get(*index) else { continue };
             let object = Object::new().text("type", "erased").text("file", &loaded.file);
@@ -181,9 +176,7 @@ impl Told<'_> {
             let object = object.text("statement", &step.operation.to_string());
             output.line(&object.number("alarms", *erased as u64).end());
         }
-        if let Some(note) = self.note() {
-            output.line(&Object::new().text("type", "note").text("note", &note).end());
-        }
+        self.note().iter().for_each(|note| print_note(note, true, output));
         let object = Object::new()
             .text("type", "case")
             .text("file", &loaded.file)

@@ -4,12 +4,13 @@ use crate::arguments::Wait as Options;
 use crate::input::{self, Start};
 use crate::options::{shown, usage};
 use crate::output::{Failure, Outcome, Output};
+use crate::print::{print_note, print_rows, print_title};
 use crate::progress::Progress;
 use crate::proved::Proved;
 use crate::save::Saved;
 use scenario::{
     bound_explained, bound_json, bound_words, follow, note, refused, waited_json, waited_words,
-    Account, Bit, Case, Names, Object, Row,
+    Account, Bit, Case, Loss, Names, Object, Row,
 };
 use st9::{Bound, Refusal, Source, Wait, WaitError};
 use std::ffi::OsStr;
@@ -23,33 +24,26 @@ pub fn wait(options: &Options, output: &mut Output) -> Result<Outcome, Failure> 
     let mut outcome = Outcome::Done;
     let mut last = Vec::new();
     for (position, Start { case, image, .. }) in loaded.cases.iter().enumerate() {
-        title(case, position == 0, options.json, output);
+        print_title(case, position == 0, options.json, output);
         let asked = &asked[position];
         let reports: Vec<_> = asked.iter().map(|source| Report::of(case, image, *source)).collect();
+        let account = account_of(case, image);
         match (options.json, &reports[..]) {
-            (true, reports) => print_json(case, reports, output),
+            (true, reports) => reports.iter().for_each(|report| report.print_json(case, output)),
             (false, [report]) if options.source.is_some() => report.print(case, output),
-            (false, reports) => print_table(case, image, reports, output),
+            (false, reports) => print_table(case, &account, reports, output),
         }
-        outcome = outcome.max(judged(options, case, image, &reports, output));
+        let lost = lost(&account, asked);
+        print_rows(&lost, case, options.json, output);
+        let note = reports.first().and_then(|report| report.note(case));
+        note.iter().for_each(|note| print_note(note, options.json, output));
+        outcome = outcome.max(judged(options, case, &account, &reports, output));
         last = reports.into_iter().next().map(|report| report.image).unwrap_or_default();
     }
     if let Some(saved) = saved {
         saved.write(&last)?;
     }
     Ok(outcome)
-}
-
-fn title(case: &Case, first: bool, json: bool, output: &mut Output) {
-    let Some(title) = &case.title else { return };
-    if json {
-        let object = Object::new().text("type", "case").number("line", case.line as u64);
-        return output.line(&object.text("case", title).end());
-    }
-    if !first {
-        output.line("");
-    }
-    output.line(&format!("case {title}"));
 }
 
 /// The source that is named, or all of a case.
@@ -103,9 +97,6 @@ impl Report {
             Err(refusal) => refused(refusal),
         };
         output.line(&format!("bound: {bound}"));
-        if let Some(note) = self.note(case) {
-            output.line(&format!("note: {note}"));
-        }
     }
 
     fn waited_words(&self, case: &Case) -> String {
@@ -141,23 +132,13 @@ impl Report {
     }
 }
 
-fn print_json(case: &Case, reports: &[Report], output: &mut Output) {
-    reports.iter().for_each(|report| report.print_json(case, output));
-    if let Some(note) = reports.first().and_then(|report| report.note(case)) {
-        output.line(&Object::new().text("type", "note").text("note", &note).end());
-    }
-}
-
 /// All sources: a line each of those that something came for, one line with the others.
-fn print_table(case: &Case, image: &[u8], reports: &[Report], output: &mut Output) {
+fn print_table(case: &Case, account: &Account, reports: &[Report], output: &mut Output) {
     if let Some(Report { waited: Err(WaitError::Call(refusal)), .. }) = reports.first() {
-        output.line(&format!("{}, before any step", refused(*refusal)));
-        let note = reports.first().and_then(|report| report.note(case));
-        return note.iter().for_each(|note| output.line(&format!("note: {note}")));
+        return output.line(&format!("{}, before any step", refused(*refusal)));
     }
-    let came = sources_with_anything(case, image, |row| {
-        row.at_start || row.raised + row.blocks + row.unselected != 0
-    });
+    let came =
+        sources_with(account, |row| row.at_start || row.raised + row.blocks + row.unselected != 0);
     let (waiting, idle): (Vec<&Report>, Vec<_>) =
         reports.iter().partition(|report| came.contains(&report.source));
     let rows = waiting.iter().map(|report| {
@@ -180,31 +161,43 @@ fn print_table(case: &Case, image: &[u8], reports: &[Report], output: &mut Outpu
     }
 }
 
-/// The sources whose row of the account has something, over the steps of the case.
-fn sources_with_anything(case: &Case, image: &[u8], has: impl Fn(&Row) -> bool) -> Vec<Source> {
-    // As the wait report: no call, no expectation, and the first refused step ends it.
+/// What became of the alarms over the steps of a case. As in the wait report there is no call and no expectation, and
+/// the first refused step is the end.
+fn account_of(case: &Case, image: &[u8]) -> Account {
     let steps = Case { asks: Vec::new(), ..case.clone() };
-    let followed = follow(&steps, image.to_vec(), &Proved, &mut |_| ());
-    let rows = followed.account.iter().flat_map(Account::rows);
-    let sources = rows.filter_map(|(bit, row)| match bit {
+    follow(&steps, image.to_vec(), &Proved, &mut |_| ()).account.unwrap_or_default()
+}
+
+/// The sources whose row of the account has something.
+fn sources_with(account: &Account, has: impl Fn(&Row) -> bool) -> Vec<Source> {
+    let sources = account.rows().filter_map(|(bit, row)| match bit {
         Bit::Of(source) => has(row).then_some(source),
         Bit::Tlip => None,
     });
     sources.collect()
 }
 
+/// The rows of sources that lost something anywhere in the list: a wait report ends at the first acknowledgement and
+/// tells none of it.
+fn lost<'a>(account: &'a Account, asked: &[Source]) -> Vec<(Bit, &'a Row)> {
+    let losses = [Loss::Erased, Loss::Merged, Loss::Unselected];
+    let lost = |row: &Row| losses.iter().any(|loss| row.has(*loss));
+    let is_asked = |bit: Bit| asked.iter().any(|source| Bit::Of(*source) == bit);
+    account.rows().filter(|(bit, row)| is_asked(*bit) && lost(row)).collect()
+}
+
 /// What the options say of the reports.
 fn judged(
     options: &Options,
     case: &Case,
-    image: &[u8],
+    account: &Account,
     reports: &[Report],
     output: &mut Output,
 ) -> Outcome {
     if reports.iter().any(|report| report.waited.is_err()) {
         return Outcome::Refused;
     }
-    let failed = failed(options, case, image, reports);
+    let failed = failed(options, account, reports);
     for (what, sources) in &failed {
         let object = || {
             let object = Object::new().text("type", "failed").text("on", what);
@@ -227,16 +220,8 @@ fn judged(
 
 /// The sources that were never acknowledged, then those that were not in time. Of all sources those count that
 /// something came for beside what DMA served.
-fn failed(
-    options: &Options,
-    case: &Case,
-    image: &[u8],
-    reports: &[Report],
-) -> Vec<(String, Vec<Source>)> {
-    if !options.fail_on_never && options.within.is_none() {
-        return Vec::new();
-    }
-    let came = sources_with_anything(case, image, |row| {
+fn failed(options: &Options, account: &Account, reports: &[Report]) -> Vec<(String, Vec<Source>)> {
+    let came = sources_with(account, |row| {
         u64::from(row.at_start) + row.raised + row.blocks > row.served || row.unselected != 0
     });
     let asked = |report: &&Report| options.source.is_some() || came.contains(&report.source);

@@ -364,6 +364,39 @@ fn a_table_of_all_sources() {
     assert_eq!(sources("bound"), (0..9).collect::<Vec<_>>());
 }
 
+/// A wait report ends at the first acknowledgement; what a source lost anywhere in the list stands beside it.
+#[test]
+fn waits_tell_what_was_lost() {
+    let rows = [
+        (
+            "edge INTB0 falling; write EIPR 00h; arbitrate",
+            "raised 1, erased 1 (line 7: write EIPR 00h)",
+        ),
+        (
+            "edge INTB0 falling; arbitrate; edge INTB0 falling; reset",
+            "raised 2, acknowledged 1, erased 1 (line 9: reset)",
+        ),
+        ("edge INTB0 falling; edge INTB0 falling; arbitrate", "raised 1, merged 1, acknowledged 1"),
+        ("edge INTB0 rising; arbitrate", "not selected 1"),
+        ("edge INTB0 falling; arbitrate", ""),
+        ("edge INTB0 falling", ""),
+        ("edge INTC0 falling; write EIPR 00h", ""),
+    ];
+    for (steps, told) in rows {
+        let scenario = format!("{START}{}\n", steps.replace("; ", "\n"));
+        let out = st9(&["wait", "-", "--source", "INTB0"], &scenario).with_code(0).out;
+        let account: Vec<_> = out.lines().filter(|line| line.starts_with("account")).collect();
+        let expected = format!("account  INTB0  {told}");
+        assert_eq!(
+            account,
+            if told.is_empty() { vec![] } else { vec![expected.as_str()] },
+            "{steps}"
+        );
+        let table = st9(&["wait", "-"], &scenario).with_code(0).out;
+        assert_eq!(table.contains(&format!("{expected}\n")), !told.is_empty(), "{steps}: {table}");
+    }
+}
+
 /// By which arbitration, and which limit it keeps.
 #[test]
 fn waits_within_a_number_of_arbitrations() {

@@ -62,7 +62,12 @@ fn objects_of_waits() {
     let refused = report("image zero\narbitrate\nread R256\n", 1);
     assert!(refused.contains(r#","step":1,"line":3,"arbitrations":1}"#), "{refused}");
     let other = "image zero\nset CICR 97h\nset EIPR 8\nset EIMR 8\nreset\n";
-    assert!(report(other, 0).ends_with(",\"step\":0,\"line\":5}\n"));
+    // The reset erases the source, and the account of the list says so.
+    let erased = report(other, 0);
+    let lines: Vec<_> = erased.lines().collect();
+    assert!(lines[1].ends_with(",\"step\":0,\"line\":5}"), "{erased}");
+    assert!(lines[2].starts_with("{\"type\":\"account\",\"source\":3,") && lines.len() == 3);
+    assert!(lines[2].contains("\"erased\":1,\"lines\":[5],"), "{erased}");
     let acknowledged = report(&other.replace("reset", "return\n# x\narbitrate"), 0);
     let wait = r#"{"type":"wait","source":3,"name":"INTB1","result":"acknowledged","arbitrations":1,"step":1,"line":7}"#;
     assert!(acknowledged.starts_with(wait), "{acknowledged}");
