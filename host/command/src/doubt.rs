@@ -27,13 +27,19 @@ pub(crate) fn of(line: &[u8], statement: &Statement, last: Option<&StepLine>) ->
             let byte = two_digits(words(line).nth(2)?)?;
             Some(Doubt { byte, place: (!known).then_some(*place) })
         }
-        Statement::Step(Operation { step: Step::Write { register, .. }, .. }) => {
-            register_name(*register)?;
-            let byte = two_digits(words(line).nth(2)?)?;
-            Some(Doubt { byte, place: None })
-        }
+        Statement::Step(operation) => of_write(operation, words(line).nth(2)?),
+        Statement::Repeat { operation, .. } => of_write(operation, words(line).nth(4)?),
         _ => None,
     }
+}
+
+/// A doubt about the word that is the byte of a step, if that is a write.
+fn of_write(operation: &Operation, word: &[u8]) -> Option<Doubt> {
+    let Step::Write { register, .. } = operation.step else {
+        return None;
+    };
+    register_name(register)?;
+    Some(Doubt { byte: two_digits(word)?, place: None })
 }
 
 /// Whether a step is about a register whose bits have names.

@@ -6,7 +6,7 @@ use crate::fields::Bits;
 use crate::number::hex;
 use crate::pending::Bit;
 use crate::{Call, Place, Report};
-use st9::{Answer, Bound, Channel, Effect, Premise, RunError, Source, Wait, WaitError};
+use st9::{Answer, Bound, Channel, Effect, Premise, Refusal, RunError, Source, Wait, WaitError};
 
 /// An expectation and the words that it was said in.
 #[derive(Clone, Debug, PartialEq, Eq)]
@@ -58,7 +58,7 @@ pub enum Expected {
     Returned,
     /// Of a reset.
     Reset,
-    /// Of a step or a call.
+    /// Of a step or a call. A refused step, and a call refused before any step, changes no byte.
     Refused {
         /// Document 01's number.
         number: u8,
@@ -134,6 +134,44 @@ impl Came<'_> {
         let (before, after, _) = self.images();
         changes(before, after)
     }
+
+    fn words(&self) -> String {
+        match self {
+            Came::Step(report) => report.words(),
+            Came::Call(report) => report.words(),
+        }
+    }
+
+    fn refusal(&self) -> Option<Refusal> {
+        match self {
+            Came::Step(report) => report.answer.err(),
+            Came::Call(report) => report.refusal(),
+        }
+    }
+
+    /// Of a run and a wait that were refused at a step: that step, and of a wait the arbitrations before it.
+    fn refused_at(&self) -> (Option<usize>, Option<u64>) {
+        let Came::Call(report) = self else {
+            return (None, None);
+        };
+        match report.answer {
+            CallAnswer::Run { done: Err(RunError::Step { index, .. }), .. } => {
+                (Some(report.from + index), None)
+            }
+            CallAnswer::Wait(Err(WaitError::Step { index, arbitrations, .. })) => {
+                (Some(report.from + index), Some(arbitrations))
+            }
+            _ => (None, None),
+        }
+    }
+
+    /// The bytes that changed though a refusal changes none. A run or a wait that is refused at a step did those before.
+    fn changes_by_refusal(&self) -> Vec<Change> {
+        match (self.refusal(), self.refused_at()) {
+            (Some(_), (None, _)) => self.changes(),
+            _ => Vec::new(),
+        }
+    }
 }
 
 impl Expected {
@@ -154,18 +192,30 @@ impl Expected {
                     };
                 changes.len() == expected.len() && changes.iter().zip(expected).all(same)
             }
+            (Expected::Refused { .. }, _) => {
+                self.is_refusal(came) && came.changes_by_refusal().is_empty()
+            }
             (_, Came::Step(report)) => self.is_met_by_step(report),
             (_, Came::Call(report)) => self.is_met_by_call(report),
         }
     }
 
+    /// Whether this is the refusal that came, whatever bytes changed.
+    pub(crate) fn is_refusal(&self, came: Came) -> bool {
+        let (Expected::Refused { number, step, arbitrations }, Some(refusal)) =
+            (self, came.refusal())
+        else {
+            return false;
+        };
+        let (index, made) = came.refused_at();
+        *number == refusal.number()
+            && step.is_none_or(|step| index == Some(step))
+            && arbitrations.is_none_or(|expected| made == Some(expected))
+    }
+
     fn is_met_by_step(&self, report: &Report) -> bool {
-        let answer = match (self, report.answer) {
-            (Expected::Refused { number, step: None, arbitrations: None }, Err(refusal)) => {
-                return *number == refusal.number()
-            }
-            (_, Err(_)) => return false,
-            (_, Ok(answer)) => answer,
+        let Ok(answer) = report.answer else {
+            return false;
         };
         match (self, answer) {
             (Expected::Byte(expected), Answer::Byte(byte)) => *expected == byte,
@@ -212,7 +262,7 @@ impl Expected {
             CallAnswer::Wait(Ok(waited)) => self.is_met_by_wait(*waited, report),
             CallAnswer::Bound(Ok(bound)) => self.is_met_by_bound(*bound, report),
             CallAnswer::View(Ok(bytes)) => *self == Expected::Page(bytes.clone()),
-            _ => self.is_met_by_refusal(report),
+            _ => false,
         }
     }
 
@@ -249,26 +299,6 @@ impl Expected {
         }
     }
 
-    fn is_met_by_refusal(&self, report: &CallReport) -> bool {
-        let Expected::Refused { number, step, arbitrations } = self else {
-            return false;
-        };
-        let Some(refusal) = report.refusal() else {
-            return false;
-        };
-        let (index, made) = match report.answer {
-            CallAnswer::Run { done: Err(RunError::Step { index, .. }), .. } => (Some(index), None),
-            CallAnswer::Wait(Err(WaitError::Step { index, arbitrations, .. })) => {
-                (Some(index), Some(arbitrations))
-            }
-            _ => (None, None),
-        };
-        let index = index.map(|index| report.from + index);
-        *number == refusal.number()
-            && step.is_none_or(|step| index == Some(step))
-            && arbitrations.is_none_or(|expected| made == Some(expected))
-    }
-
     /// What came, in the words that this expectation is about.
     pub(crate) fn came(&self, came: Came) -> String {
         let (_, after, channels) = came.images();
@@ -282,8 +312,11 @@ impl Expected {
                 None => format!("an image without {}", place.written()),
             },
             (Expected::Changed(_), _) => changed_words(&came.changes()),
-            (_, Came::Step(report)) => report.words(),
-            (_, Came::Call(report)) => report.words(),
+            (Expected::Refused { .. }, _) => match came.changes_by_refusal() {
+                changes if changes.is_empty() => came.words(),
+                changes => format!("{}, and {}", came.words(), changed_words(&changes)),
+            },
+            _ => came.words(),
         }
     }
 }

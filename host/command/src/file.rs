@@ -25,7 +25,7 @@ pub struct Scenario {
 pub struct Case {
     /// Its title, none where the file has no `case`.
     pub title: Option<String>,
-    /// The line of its title, or that of its image.
+    /// The line of its `case` or `again`, or that of its image.
     pub line: usize,
     /// The image to start from, and the line of its statement.
     pub image: (ImageName, usize),
@@ -120,7 +120,7 @@ impl Scenario {
             tell(position);
             last = position + 1;
             let wrong = |problem| ScenarioError { line: last, problem };
-            let names = &reading.current.names;
+            let names = &reading.current.preparation.names;
             let Some(statement) = parse::statement(content, names).map_err(wrong)? else {
                 continue;
             };
@@ -136,43 +136,78 @@ impl Scenario {
 #[derive(Default)]
 struct Reading {
     /// What stands before the first `case`.
-    common: Option<Draft>,
+    common: Option<Preparation>,
+    /// The last `case`, once an `again` went back to it.
+    first: Option<First>,
     current: Draft,
     cases: Vec<Case>,
     warnings: Vec<ScenarioError>,
 }
 
 /// A case that is being read.
-#[derive(Clone, Default)]
+#[derive(Default)]
 struct Draft {
     title: Option<(String, usize)>,
+    preparation: Preparation,
+    steps: Vec<StepLine>,
+    asks: Vec<Ask>,
+}
+
+/// What stands before the first step.
+#[derive(Clone, Default)]
+struct Preparation {
     image: Option<(ImageName, usize)>,
-    /// Whether the image is that of the common part.
+    /// Whether the image is that of the common part, or of the case that `again` goes back to.
     inherited: bool,
     sets: Vec<SetLine>,
     /// Warnings about bytes that matter only if they are an IDCR.
     doubts: Vec<(Place, ScenarioError)>,
     channels: Vec<(Channel, usize)>,
     names: Names,
-    steps: Vec<StepLine>,
-    asks: Vec<Ask>,
+}
+
+/// A case that others start from.
+struct First {
+    title: String,
+    preparation: Preparation,
+    /// The cases from it on, itself included.
+    cases: usize,
 }
 
 impl Reading {
     fn add(&mut self, statement: Statement, line: usize) -> Result<(), ScenarioError> {
-        let Statement::Case(title) = statement else {
-            return self
-                .current
-                .add(statement, line)
-                .map_err(|problem| ScenarioError { line, problem });
-        };
+        let wrong = |problem| ScenarioError { line, problem };
+        match statement {
+            Statement::Case(title) => self.case(title, line),
+            Statement::Again(words) => self.again(words, line),
+            other => self.current.add(other, line).map_err(wrong),
+        }
+    }
+
+    fn case(&mut self, title: String, line: usize) -> Result<(), ScenarioError> {
         match &self.common {
             Some(_) => self.close(line)?,
             None => self.open(line)?,
         }
-        let common = self.common.clone().unwrap_or_default();
-        let inherited = common.image.is_some();
-        self.current = Draft { title: Some((title, line)), inherited, ..common };
+        self.first = None;
+        self.current = Draft::starting(title, line, self.common.clone().unwrap_or_default());
+        Ok(())
+    }
+
+    /// Every `again` goes back to the `case`, not to the one before it: their order does not matter.
+    fn again(&mut self, words: Option<String>, line: usize) -> Result<(), ScenarioError> {
+        let Some(mut first) = self.first.take().or_else(|| self.current.first()) else {
+            let problem = "again before a case: expected case TITLE before it".into();
+            return Err(ScenarioError { line, problem });
+        };
+        self.close(line)?;
+        first.cases += 1;
+        let title = match words {
+            Some(words) => format!("{}: {words}", first.title),
+            None => format!("{} ({})", first.title, first.cases),
+        };
+        self.current = Draft::starting(title, line, first.preparation.clone());
+        self.first = Some(first);
         Ok(())
     }
 
@@ -182,15 +217,15 @@ impl Reading {
             let problem = "a case after steps that belong to none: expected image, set, channel and name alone before the first case".into();
             return Err(ScenarioError { line, problem });
         }
-        self.common = Some(std::mem::take(&mut self.current));
+        self.common = Some(std::mem::take(&mut self.current.preparation));
         Ok(())
     }
 
     fn close(&mut self, last: usize) -> Result<(), ScenarioError> {
         let mut draft = std::mem::take(&mut self.current);
-        let doubts = std::mem::take(&mut draft.doubts);
+        let doubts = std::mem::take(&mut draft.preparation.doubts);
         let case = draft.close(last)?;
-        // A warning of the common part is told once.
+        // A warning of what several cases have is told once.
         for (place, doubt) in doubts {
             let idcr = matches!(place.role(&case.channels), Role::Idcr(_));
             if idcr && !self.warnings.contains(&doubt) {
@@ -209,7 +244,7 @@ impl Reading {
             }
             Some(Doubt { byte, place: Some(place) }) => {
                 let doubt = ScenarioError { line, problem: doubt::problem(byte) };
-                self.current.doubts.push((place, doubt));
+                self.current.preparation.doubts.push((place, doubt));
             }
             None => {}
         }
@@ -224,6 +259,18 @@ impl Reading {
 const IMAGE: &str = "image zero or image FILE before the first step";
 
 impl Draft {
+    /// A case that has this before its own lines.
+    fn starting(title: String, line: usize, mut preparation: Preparation) -> Draft {
+        preparation.inherited = preparation.image.is_some();
+        Draft { title: Some((title, line)), preparation, ..Draft::default() }
+    }
+
+    /// The case as `again` needs it; none where it is not of a `case`.
+    fn first(&self) -> Option<First> {
+        let (title, _) = self.title.clone()?;
+        Some(First { title, preparation: self.preparation.clone(), cases: 1 })
+    }
+
     fn has_started(&self) -> bool {
         !self.steps.is_empty() || !self.asks.is_empty()
     }
@@ -231,10 +278,8 @@ impl Draft {
     fn add(&mut self, statement: Statement, line: usize) -> Result<(), String> {
         let number = u32::try_from(line).unwrap_or(u32::MAX);
         match statement {
-            Statement::Step(operation) => {
-                self.need_image()?;
-                self.steps.push(StepLine { operation, line: number });
-            }
+            Statement::Step(operation) => self.add_steps(operation, 1, number)?,
+            Statement::Repeat { count, operation } => self.add_steps(operation, count, number)?,
             Statement::Call(call) => {
                 self.need_image()?;
                 let after = self.steps.len();
@@ -254,50 +299,40 @@ impl Draft {
                     "'{other}' after a step: expected image, set, channel and name before the first step"
                 ))
             }
-            other => return self.add_before_steps(other, line),
+            other => return self.preparation.add(other, line),
         }
         Ok(())
     }
 
+    /// A step as often as it is done, each time with its line.
+    fn add_steps(&mut self, operation: Operation, count: usize, line: u32) -> Result<(), String> {
+        self.need_image()?;
+        self.steps.extend(std::iter::repeat_n(StepLine { operation, line }, count));
+        Ok(())
+    }
+
     fn need_image(&self) -> Result<(), String> {
-        match self.image {
+        match self.preparation.image {
             Some(_) => Ok(()),
             None => Err(format!("a step without an image: expected {IMAGE}")),
         }
     }
 
-    fn add_before_steps(&mut self, statement: Statement, line: usize) -> Result<(), String> {
-        match statement {
-            Statement::Image(image) => {
-                if let (Some((_, before)), false) = (&self.image, self.inherited) {
-                    return Err(format!("a second image: expected one, that of line {before}"));
-                }
-                self.image = Some((image, line));
-                self.inherited = false;
-            }
-            Statement::Set { place, bits } => self.sets.push(SetLine { place, bits, line }),
-            Statement::Channel(channel) => self.channels.push((channel, line)),
-            Statement::Name(name, source) => return self.names.give(&name, source),
-            // `Reading` and `add` have taken the others.
-            _ => {}
-        }
-        Ok(())
-    }
-
     /// The case; a missing image is told at its title, or where the file ends.
     fn close(self, last: usize) -> Result<Case, ScenarioError> {
-        let Some(image) = self.image else {
+        let Preparation { image, sets, channels, names, .. } = self.preparation;
+        let Some(image) = image else {
             let line = self.title.map_or(last, |(_, line)| line);
             let problem = format!("no image: expected {IMAGE}");
             return Err(ScenarioError { line, problem });
         };
-        let (channels, channel_lines): (Vec<_>, Vec<_>) = self.channels.into_iter().unzip();
+        let (channels, channel_lines): (Vec<_>, Vec<_>) = channels.into_iter().unzip();
         let stored = self.asks.iter().filter_map(|ask| match ask.what.expected() {
             Some(Expected::Stored { place, bits }) => Some((*place, *bits, ask.line as usize)),
             _ => None,
         });
-        let sets = self.sets.iter().map(|set| (set.place, set.bits, set.line));
-        for (place, bits, line) in sets.chain(stored) {
+        let set = sets.iter().map(|set| (set.place, set.bits, set.line));
+        for (place, bits, line) in set.chain(stored) {
             let fields = bits.mask != 0xFF && place.role(&[]) == Role::Plain;
             if fields && !matches!(place.role(&channels), Role::Idcr(_)) {
                 let problem =
@@ -310,13 +345,33 @@ impl Draft {
             title: self.title.map(|(title, _)| title),
             line,
             image,
-            sets: self.sets,
+            sets,
             channels,
             channel_lines,
-            names: self.names,
+            names,
             steps: self.steps,
             asks: self.asks,
         })
+    }
+}
+
+impl Preparation {
+    fn add(&mut self, statement: Statement, line: usize) -> Result<(), String> {
+        match statement {
+            Statement::Image(image) => {
+                if let (Some((_, before)), false) = (&self.image, self.inherited) {
+                    return Err(format!("a second image: expected one, that of line {before}"));
+                }
+                self.image = Some((image, line));
+                self.inherited = false;
+            }
+            Statement::Set { place, bits } => self.sets.push(SetLine { place, bits, line }),
+            Statement::Channel(channel) => self.channels.push((channel, line)),
+            Statement::Name(name, source) => return self.names.give(&name, source),
+            // `Reading` and `Draft` have taken the others.
+            _ => {}
+        }
+        Ok(())
     }
 }
 
@@ -343,7 +398,7 @@ impl Case {
         self.steps.get(index).map_or(0, |step| step.line)
     }
 
-    /// The step of a line.
+    /// The step of a line; those of a `repeat` are all the same.
     pub(crate) fn step_of_line(&self, line: u32) -> Option<&StepLine> {
         let index = self.steps.binary_search_by_key(&line, |step| step.line).ok()?;
         self.steps.get(index)

@@ -3,7 +3,7 @@
 use crate::account::{Account, Counted};
 use crate::answers::Report;
 use crate::calls::{CallReport, Made, Model};
-use crate::expectation::{Came, Expect, Expected};
+use crate::expectation::{Came, Expect};
 use crate::pending::Pending;
 use crate::{Ask, Asked, Call, Case, Object};
 use st9::{Channel, Refusal, RunError};
@@ -143,11 +143,12 @@ impl Followed {
 /// Follows a case from an image, its `set` bits stored.
 pub fn follow(
     case: &Case,
-    mut image: Vec<u8>,
+    image: Vec<u8>,
     model: &impl Model,
     tell: &mut impl FnMut(Event),
 ) -> Followed {
-    let lent = match model.run(&mut image, &case.channels, &[]) {
+    // On a copy: what a model does to the image though it refuses it is seen at the step that asks.
+    let lent = match model.run(&mut image.clone(), &case.channels, &[]) {
         Err(RunError::Call(refusal)) => Some(refusal),
         _ => None,
     };
@@ -290,14 +291,13 @@ impl<'a, M: Model, T: FnMut(Event)> Follower<'a, M, T> {
     }
 
     /// Takes the expectations of what came; whether it is a refusal and one of them says so, with the number that came.
+    /// That decides alone whether the case goes on: bytes that a model changed all the same are told of the expectation.
     fn expects(&mut self, after: usize, came: Came) -> (&'a [Ask], bool) {
         let expects = group(self.asks, after);
         self.asks = &self.asks[expects.len()..];
         let says_so = |ask: &Ask| match &ask.what {
-            Asked::Expect(Expect { what: what @ Expected::Refused { .. }, .. }) => {
-                what.is_met(came)
-            }
-            _ => false,
+            Asked::Expect(expect) => expect.what.is_refusal(came),
+            Asked::Call(_) => false,
         };
         (expects, expects.iter().any(says_so))
     }

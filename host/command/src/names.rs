@@ -69,11 +69,11 @@ pub(crate) fn source(word: &[u8]) -> Option<Source> {
 const LONGEST: usize = 32;
 
 /// The words of statements and expectations, which are no names of one's own.
-const RESERVED: &str = "above acknowledged after and answer arbitrate arbitration arbitrations as at block bound by \
+const RESERVED: &str = "above acknowledged after again and answer arbitrate arbitration arbitrations as at block bound by \
     byte bytes case changed channel counted dapr data dcpr direction disabled dma done edge enabled \
     ended erased expect fails falling fill has idcr if image in interrupts ip is ivr last latest \
     level list mark masked merged mode moved name nested never nmi no none not nothing of one other \
-    out page pending premise priority raised read refused request reset return returned rising run \
+    out page pending premise priority raised read refused repeat request reset return returned rising run \
     selected service set source step steps the tlip top trigger vector view wait watchdog with \
     write written zero";
 
@@ -264,8 +264,10 @@ mod tests {
         for good in ["FAN", "over-temperature", "A_1", "INTE0", "rx"] {
             assert!(may_be_name(good.as_bytes()), "{good}");
         }
-        for bad in ["", "1A", "CICR", "INTB0", "ch3", "BADh", "R16", "Erased", "a.b", "é", "TLIP"]
-        {
+        for bad in [
+            "", "1A", "CICR", "INTB0", "ch3", "BADh", "R16", "Erased", "a.b", "é", "TLIP", "Again",
+            "repeat",
+        ] {
             assert!(!may_be_name(bad.as_bytes()), "{bad}");
         }
         let mut names = Names::default();

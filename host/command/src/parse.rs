@@ -11,8 +11,9 @@ use st9::{Channel, Edge, Source, Step};
 /// What is wrong with a line and what was expected.
 pub(crate) type Problem = String;
 
-const STATEMENTS: &str = "image, set, channel, name, case, a step (read, write, edge, watchdog, nmi, request, arbitrate, return, reset, step), \
-                          run, wait, bound, view or expect";
+const STATEMENTS: &str = "image, set, channel, name, case, again, a step (read, write, edge, watchdog, nmi, request, arbitrate, return, reset, step), \
+                          repeat, run, wait, bound, view or expect";
+const STEP: &str = "a step as arbitrate or write EIPR 00h";
 const REGISTER: &str = "a register as EIPR, R243 or 243, without a page: PPR selects it";
 pub(crate) const BYTE: &str = "a byte as 97h, 0x97 or 151, at most FFh";
 const NUMBER: &str = "a number as 97h, 0x97 or 151";
@@ -27,6 +28,9 @@ const NAME: &str =
 
 /// The longest statement of words alone: `channel` and its seven fields.
 const MOST_WORDS: usize = 8;
+
+/// How often a step is done by one statement at most.
+const MOST_REPEATS: u64 = 1_000_000;
 
 /// The longest image that is made without a file.
 const LONGEST_IMAGE: u64 = 1 << 20;
@@ -53,6 +57,7 @@ pub fn statement(line: &[u8], names: &Names) -> Result<Option<Statement>, Proble
         b"image" => image(rest)?,
         b"case" if rest.is_empty() => return Err("the case has no title: expected one".into()),
         b"case" => Statement::Case(printable(rest)),
+        b"again" => Statement::Again((!rest.is_empty()).then(|| printable(rest))),
         b"expect" => Statement::Expect(expect::expect(rest, names)?),
         _ => of_words(keyword, first, rest, names)?,
     };
@@ -100,18 +105,35 @@ fn of_words(
         b"wait" => Statement::Call(Call::Wait(source(&mut arguments, names)?)),
         b"bound" => Statement::Call(Call::Bound(source(&mut arguments, names)?)),
         b"view" => Statement::Call(Call::View(arguments.take("a page's number", number_32)?)),
-        _ => Statement::Step(operation(keyword, first, &mut arguments, names)?),
+        b"repeat" => repeat(&mut arguments, names)?,
+        _ => {
+            let step = operation(keyword, &mut arguments, names)?;
+            Statement::Step(step.ok_or_else(|| expected(STATEMENTS, first))?)
+        }
     };
     arguments.end()?;
     Ok(statement)
 }
 
+/// How often, then a step.
+fn repeat(arguments: &mut Arguments, names: &Names) -> Result<Statement, Problem> {
+    let times = format!("how often, 1 to {MOST_REPEATS}");
+    let count = arguments.take(&times, |word| match number(word) {
+        Some(count @ 1..=MOST_REPEATS) => Some(count as usize),
+        _ => None,
+    })?;
+    let first = arguments.next(STEP)?;
+    let operation = operation(&first.to_ascii_lowercase(), arguments, names)?;
+    let operation = operation.ok_or_else(|| expected(STEP, first))?;
+    Ok(Statement::Repeat { count, operation })
+}
+
+/// A step by its keyword; none where that is another one.
 fn operation(
     keyword: &[u8],
-    first: &[u8],
     arguments: &mut Arguments,
     names: &Names,
-) -> Result<Operation, Problem> {
+) -> Result<Option<Operation>, Problem> {
     let mut named = false;
     let step = match keyword {
         b"read" => {
@@ -136,9 +158,9 @@ fn operation(
         b"return" => Step::Return,
         b"reset" => Step::Reset,
         b"step" => Step::Word(arguments.take(NUMBER, number)?),
-        _ => return Err(expected(STATEMENTS, first)),
+        _ => return Ok(None),
     };
-    Ok(Operation { step, named })
+    Ok(Some(Operation { step, named }))
 }
 
 /// A pin by the name of its source, own names included, or by number.
@@ -438,6 +460,20 @@ mod tests {
             ("view 3Fh", "view 63"),
             ("run", "run"),
             ("expect  acknowledged  INTC0 # c", "expect acknowledged INTC0"),
+        ];
+        for (line, canonical) in expected {
+            assert_eq!(said(line), canonical, "{line}");
+        }
+    }
+
+    #[test]
+    fn forms_of_again_and_repeat() {
+        let expected = [
+            ("Again # c", "again"),
+            ("again  two  words # c", "again two  words"),
+            ("REPEAT 12Ch Arbitrate", "repeat 300 arbitrate"),
+            ("repeat 1 request channel 0", "repeat 1 request 0"),
+            ("repeat 1000000 write eipr 0", "repeat 1000000 write EIPR 00h"),
         ];
         for (line, canonical) in expected {
             assert_eq!(said(line), canonical, "{line}");

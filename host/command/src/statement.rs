@@ -25,8 +25,17 @@ pub enum Statement {
     Name(String, Source),
     /// The start of a case, with its title.
     Case(String),
+    /// Another case from where the one before started, and what its title adds.
+    Again(Option<String>),
     /// A step.
     Step(Operation),
+    /// A step several times.
+    Repeat {
+        /// How often.
+        count: usize,
+        /// The step.
+        operation: Operation,
+    },
     /// A call on a copy of the image, over the steps that follow.
     Call(Call),
     /// What the step or the call before it gives.
@@ -77,6 +86,17 @@ pub enum Call {
 impl ImageName {
     /// `image zero`.
     pub const ZERO: ImageName = ImageName::Fill { byte: 0, length: st9::IMAGE_LENGTH };
+
+    /// Its bytes; those of a file are read by its name.
+    pub fn bytes<E>(&self, read: impl FnOnce(&str) -> Result<Vec<u8>, E>) -> Result<Vec<u8>, E> {
+        match self {
+            ImageName::Fill { byte, length } => Ok(vec![*byte; *length]),
+            ImageName::Counted { length } => {
+                Ok((0..*length).map(|index| (index % 251) as u8).collect())
+            }
+            ImageName::File(name) => read(name),
+        }
+    }
 }
 
 impl fmt::Display for Statement {
@@ -89,7 +109,10 @@ impl fmt::Display for Statement {
             Statement::Channel(channel) => write_channel(f, channel),
             Statement::Name(name, source) => write!(f, "name {name} {}", source_word(*source)),
             Statement::Case(title) => write!(f, "case {title}"),
+            Statement::Again(None) => f.write_str("again"),
+            Statement::Again(Some(words)) => write!(f, "again {words}"),
             Statement::Step(operation) => operation.fmt(f),
+            Statement::Repeat { count, operation } => write!(f, "repeat {count} {operation}"),
             Statement::Call(call) => call.fmt(f),
             Statement::Expect(expect) => write!(f, "expect {}", expect.said),
         }

@@ -4,8 +4,8 @@ mod support;
 
 use support::{folder, st9, st9_in};
 
-const STATEMENTS: &str = "image, set, channel, name, case, a step (read, write, edge, watchdog, nmi, request, arbitrate, return, reset, step), \
-                          run, wait, bound, view or expect";
+const STATEMENTS: &str = "image, set, channel, name, case, again, a step (read, write, edge, watchdog, nmi, request, arbitrate, return, reset, step), \
+                          repeat, run, wait, bound, view or expect";
 const NAME: &str = "zero, fill BYTE or counted, each with or without a length, or a file's name (with blanks: between double quotes)";
 
 /// Bad lines and what is told of each.
@@ -79,11 +79,32 @@ view => the line ends too early: expected a page's number
 view 4294967296 => '4294967296': expected a page's number
 run 3 => '3': expected the end of the line
 case => the case has no title: expected one
+again => again before a case: expected case TITLE before it
+again and again => again before a case: expected case TITLE before it
+name Again INTC0 => 'Again': expected NAME
+name repeat INTC0 => 'repeat': expected NAME
+repeat => the line ends too early: expected TIMES
+repeat arbitrate => 'arbitrate': expected TIMES
+repeat 0 arbitrate => '0': expected TIMES
+repeat 1000001 arbitrate => '1000001': expected TIMES
+repeat 18446744073709551617 return => '18446744073709551617': expected TIMES
+repeat 3 => the line ends too early: expected STEP
+repeat 3 run => 'run': expected STEP
+repeat 3 wait INTB0 => 'wait': expected STEP
+repeat 3 expect none => 'expect': expected STEP
+repeat 3 set R1 1 => 'set': expected STEP
+repeat 3 again => 'again': expected STEP
+repeat 3 repeat 3 return => 'repeat': expected STEP
+repeat 3 read FOO => 'FOO': expected REGISTER
+repeat 3 write EIPR => the line ends too early: expected BYTE
+repeat 3 arbitrate 1 => '1': expected the end of the line
 expect raised => 'expect raised' before a step: expected a step, run, wait, bound or view before it
 arbitrate\rreturn => a carriage return inside a line: expected lines ended by LF or CRLF";
 
 /// What stands for the words in capitals.
-const EXPECTED: [(&str, &str); 10] = [
+const EXPECTED: [(&str, &str); 12] = [
+    ("TIMES", "how often, 1 to 1000000"),
+    ("STEP", "a step as arbitrate or write EIPR 00h"),
     ("PIN", "a pin as INTB0 or 2, or a name of your own"),
     ("RECORD", "a record as 0 or CH0, or a name of your own"),
     ("STATEMENTS", STATEMENTS),
@@ -174,6 +195,7 @@ fn bad_expectations_are_told() {
 fn bad_order() {
     let first = "expected image zero or image FILE before the first step";
     let late = "expected image, set, channel and name before the first step";
+    let again = "again before a case: expected case TITLE before it";
     let record = "channel page=9 idcr=240 ivr=241 dcpr=242 dapr=243 data=244 in";
     let common = "a case after steps that belong to none: expected image, set, channel and name alone before the first case";
     let cases = [
@@ -192,6 +214,31 @@ fn bad_order() {
             format!("-:3: '{record}' after a step: {late}"),
         ),
         ("image zero\nreturn\ncase a\n", format!("-:3: {common}")),
+        ("repeat 3 return\nimage zero\n", format!("-:1: a step without an image: {first}")),
+        ("image zero\nrepeat 2 return\nset R1 1\n", format!("-:3: 'set R1 01h' after a step: {late}")),
+        ("image zero\nreturn\nagain\n", format!("-:3: {again}")),
+        ("image zero\nagain\ncase a\n", format!("-:2: {again}")),
+        ("case a\nagain\nimage zero\n", format!("-:1: no image: {first}")),
+        (
+            "image zero\ncase a\nreturn\nagain\nreturn\nset R1 1\n",
+            format!("-:6: 'set R1 01h' after a step: {late}"),
+        ),
+        (
+            "image zero\ncase a\nreturn\nagain\nimage zero\nimage zero\n",
+            "-:6: a second image: expected one, that of line 5".into(),
+        ),
+        (
+            "image zero\ncase a\nreturn\nagain\nexpect returned\n",
+            "-:5: 'expect returned' before a step: expected a step, run, wait, bound or view before it".into(),
+        ),
+        (
+            "image zero\ncase a\nname A 1\nreturn\nagain\nname B 1\n",
+            "-:6: INTA1 is called A already: expected one name".into(),
+        ),
+        (
+            "image zero\ncase a\nagain\nset R240.p9 IP=1\n",
+            "-:4: R240.p9 is no record's IDCR: expected a byte there".into(),
+        ),
         (
             "image zero\nname A 1\nname a 2\n",
             "-:3: a is INTA1 already: expected another name".into(),

@@ -9,7 +9,7 @@ use support::{examples, is_json, st9_in, Random};
 const PARSES: usize = 100_000;
 const RUNS: usize = 600;
 
-const WORDS: [&str; 88] = [
+const WORDS: [&str; 92] = [
     "image",
     "zero",
     "set",
@@ -87,6 +87,10 @@ const WORDS: [&str; 88] = [
     "->",
     "case",
     "case a",
+    "again",
+    "again a",
+    "repeat",
+    "repeat 3",
     "name",
     "FAN",
     "wait",

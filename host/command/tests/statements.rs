@@ -94,6 +94,8 @@ fn calls_names_and_cases() {
     }
     assert_read_again(&Statement::Call(Call::Run));
     assert_read_again(&Statement::Case("a title, é".to_string()));
+    assert_read_again(&Statement::Again(Some("a title, é".to_string())));
+    assert_read_again(&Statement::Again(None));
 }
 
 fn number(random: &mut Random) -> u32 {
@@ -133,7 +135,10 @@ fn any_step(random: &mut Random) -> Operation {
 fn steps() {
     let mut random = Random(2);
     for _ in 0..20_000 {
-        assert_read_again(&Statement::Step(any_step(&mut random)));
+        let operation = any_step(&mut random);
+        assert_read_again(&Statement::Step(operation));
+        let count = random.pick(&[1, 2, 300, 1_000_000]);
+        assert_read_again(&Statement::Repeat { count, operation });
     }
 }
 
