@@ -1,7 +1,7 @@
 //! The words after `expect`.
 
 use crate::doubt::two_digits;
-use crate::expectation::{Expect, Expected};
+use crate::expectation::{Expect, Expected, RefusedAt};
 use crate::names::{Names, Place};
 use crate::number::{number, number_32};
 use crate::parse::{self, expected, Arguments, Problem, BYTE};
@@ -336,8 +336,14 @@ impl Reader<'_> {
         self.taken("with");
         let refusal = |word: &[u8]| Refusal::from_number(number(word)?);
         let number = self.words.take(REFUSAL, refusal)?.number();
-        let step = self.at_step()?;
-        Ok(Expected::Refused { number, step, arbitrations: self.after_arbitrations()? })
+        let at = match self.taken("before") {
+            true => {
+                self.all_taken(&["any", "step"]);
+                Some(RefusedAt::BeforeAnyStep)
+            }
+            false => self.at_step()?.map(RefusedAt::Step),
+        };
+        Ok(Expected::Refused { number, at, arbitrations: self.after_arbitrations()? })
     }
 
     /// `done 3 steps, last answer: none`.

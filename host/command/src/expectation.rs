@@ -62,8 +62,8 @@ pub enum Expected {
     Refused {
         /// Document 01's number.
         number: u8,
-        /// Of a run and a wait: the step.
-        step: Option<usize>,
+        /// Of a call: where.
+        at: Option<RefusedAt>,
         /// Of a wait: the arbitrations made before it.
         arbitrations: Option<u64>,
     },
@@ -115,6 +115,15 @@ pub enum Expected {
     Changed(Vec<(Place, Option<u8>, u8)>),
 }
 
+/// Where a call is refused.
+#[derive(Clone, Copy, Debug, PartialEq, Eq)]
+pub enum RefusedAt {
+    /// For its arguments, as document 01 orders the refusals.
+    BeforeAnyStep,
+    /// A run or a wait, at this step.
+    Step(usize),
+}
+
 /// What came: of a step or of a call.
 #[derive(Clone, Copy)]
 pub(crate) enum Came<'a> {
@@ -149,27 +158,26 @@ impl Came<'_> {
         }
     }
 
-    /// Of a run and a wait that were refused at a step: that step, and of a wait the arbitrations before it.
-    fn refused_at(&self) -> (Option<usize>, Option<u64>) {
+    /// Where a call was refused; of a wait at a step also the arbitrations before it.
+    fn refused_at(&self) -> (Option<RefusedAt>, Option<u64>) {
         let Came::Call(report) = self else {
             return (None, None);
         };
+        let step = |index: usize| Some(RefusedAt::Step(report.from + index));
         match report.answer {
-            CallAnswer::Run { done: Err(RunError::Step { index, .. }), .. } => {
-                (Some(report.from + index), None)
-            }
+            CallAnswer::Run { done: Err(RunError::Step { index, .. }), .. } => (step(index), None),
             CallAnswer::Wait(Err(WaitError::Step { index, arbitrations, .. })) => {
-                (Some(report.from + index), Some(arbitrations))
+                (step(index), Some(arbitrations))
             }
-            _ => (None, None),
+            _ => (Some(RefusedAt::BeforeAnyStep), None),
         }
     }
 
     /// The bytes that changed though a refusal changes none. A run or a wait that is refused at a step did those before.
     fn changes_by_refusal(&self) -> Vec<Change> {
         match (self.refusal(), self.refused_at()) {
-            (Some(_), (None, _)) => self.changes(),
-            _ => Vec::new(),
+            (None, _) | (_, (Some(RefusedAt::Step(_)), _)) => Vec::new(),
+            _ => self.changes(),
         }
     }
 }
@@ -202,14 +210,14 @@ impl Expected {
 
     /// Whether this is the refusal that came, whatever bytes changed.
     pub(crate) fn is_refusal(&self, came: Came) -> bool {
-        let (Expected::Refused { number, step, arbitrations }, Some(refusal)) =
+        let (Expected::Refused { number, at, arbitrations }, Some(refusal)) =
             (self, came.refusal())
         else {
             return false;
         };
-        let (index, made) = came.refused_at();
+        let (place, made) = came.refused_at();
         *number == refusal.number()
-            && step.is_none_or(|step| index == Some(step))
+            && (at.is_none() || *at == place)
             && arbitrations.is_none_or(|expected| made == Some(expected))
     }
 

@@ -2,7 +2,7 @@
 
 use crate::output::{complain, Failure};
 use crate::progress::Progress;
-use scenario::{printable, Case, ImageName, Scenario, Stored};
+use scenario::{printable, Case, Scenario, Stored};
 use std::ffi::OsStr;
 use std::fs::File;
 use std::io::{self, Read};
@@ -40,8 +40,9 @@ pub fn scenario(file: &OsStr) -> Result<Loaded, Failure> {
     let folder = Path::new(file).parent().unwrap_or(Path::new(""));
     let mut cases = Vec::with_capacity(scenario.cases.len());
     for case in scenario.cases {
-        let mut image = made(&case, folder).map_err(|error| {
-            let (image, line) = &case.image;
+        let (image, line) = &case.image;
+        let read = |name: &str| stored(&folder.join(name), LARGEST_IMAGE);
+        let mut image = image.bytes(read).map_err(|error| {
             let image = printable(image.to_string().as_bytes());
             Failure(format!(
                 "{shown}:{line}: image {image}: {error}: expected a file of 1,265 bytes"
@@ -63,17 +64,6 @@ pub fn scenario(file: &OsStr) -> Result<Loaded, Failure> {
         ));
     }
     Ok(Loaded { file: shown, cases })
-}
-
-/// The image of a case, before its `set` bits are stored.
-fn made(case: &Case, folder: &Path) -> io::Result<Vec<u8>> {
-    match &case.image.0 {
-        ImageName::Fill { byte, length } => Ok(vec![*byte; *length]),
-        ImageName::Counted { length } => {
-            Ok((0..*length).map(|index| (index % 251) as u8).collect())
-        }
-        ImageName::File(name) => stored(&folder.join(name), LARGEST_IMAGE),
-    }
 }
 
 fn parsed(text: &[u8]) -> Result<Scenario, scenario::ScenarioError> {

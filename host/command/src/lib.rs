@@ -1,7 +1,7 @@
 //! Scenarios of the command `st9`: their statements, cases followed and compared with what they expect, the names of
 //! registers and bits, and answers in words.
 //!
-//! A case is followed on any [`Model`]: the command passes the proved one.
+//! A case is followed on any [`Model`]: the command passes the proved one, [`Proved`].
 
 #![forbid(unsafe_code)]
 #![deny(missing_docs)]
@@ -22,6 +22,7 @@ mod notes;
 mod number;
 mod parse;
 mod pending;
+mod proved;
 mod quote;
 mod statement;
 mod stored;
@@ -33,7 +34,7 @@ pub use calls::{
     bound_json, refused_json, waited_json, waited_words, CallAnswer, CallReport, Made, Model,
 };
 pub use changes::{changes, Change};
-pub use expectation::{Expect, Expected};
+pub use expectation::{Expect, Expected, RefusedAt};
 pub use fields::{Bits, Field};
 pub use file::{Ask, Asked, Case, Scenario, ScenarioError, SetLine, StepLine};
 pub use follow::{follow, Comparison, End, Event, Followed};
@@ -43,6 +44,7 @@ pub use notes::note;
 pub use number::{hex, number, number_32};
 pub use parse::statement;
 pub use pending::{Bit, Pending};
+pub use proved::Proved;
 pub use quote::{printable, quoted};
 pub use statement::{Call, ImageName, Operation, Statement};
 pub use stored::Stored;

@@ -10,7 +10,6 @@ mod options;
 mod output;
 mod print;
 mod progress;
-mod proved;
 mod run;
 mod save;
 mod show;

@@ -1,9 +1,10 @@
 //! The proved model, as scenarios call it.
 
-use scenario::Model;
+use crate::Model;
 use st9::{Answer, Bound, Channel, Done, Refusal, RunError, Source, Step, Wait, WaitError};
 
 /// The library `st9`.
+#[derive(Clone, Copy, Debug)]
 pub struct Proved;
 
 impl Model for Proved {

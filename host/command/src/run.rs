@@ -6,9 +6,8 @@ use crate::input::{self, Start};
 use crate::output::{Failure, Outcome, Output};
 use crate::print::{Printer, Style};
 use crate::progress::Progress;
-use crate::proved::Proved;
 use crate::save::Saved;
-use scenario::{follow, Event, Followed, Object};
+use scenario::{follow, Event, Followed, Object, Proved};
 
 pub fn run(options: &Run, output: &mut Output) -> Result<Outcome, Failure> {
     let loaded = input::scenario(&options.file)?;

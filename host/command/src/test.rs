@@ -5,9 +5,8 @@ use crate::counts::{unexpected, Counts};
 use crate::input::{self, Loaded, Start};
 use crate::output::{complain, Failure, Outcome, Output};
 use crate::print::{end_words, failed, print_note};
-use crate::proved::Proved;
 use scenario::{
-    counted, follow, note, quoted, refused, Case, Comparison, End, Event, Followed, Object,
+    counted, follow, note, quoted, refused, Case, Comparison, End, Event, Followed, Object, Proved,
 };
 use std::ffi::OsString;
 use std::os::unix::ffi::OsStrExt;

@@ -6,11 +6,10 @@ use crate::options::{shown, usage};
 use crate::output::{Failure, Outcome, Output};
 use crate::print::{print_note, print_rows, print_title};
 use crate::progress::Progress;
-use crate::proved::Proved;
 use crate::save::Saved;
 use scenario::{
     bound_explained, bound_json, bound_words, follow, note, refused, waited_json, waited_words,
-    Account, Bit, Case, Loss, Names, Object, Row,
+    Account, Bit, Case, Loss, Names, Object, Proved, Row,
 };
 use st9::{Bound, Refusal, Source, Wait, WaitError};
 use std::ffi::OsStr;

@@ -27,6 +27,18 @@ fn last(ran: &Ran) -> &str {
     ran.out.lines().last().unwrap_or("")
 }
 
+/// The cases of `cases/`: all met, no warning, no alarm erased that no expectation tells.
+#[test]
+fn the_cases_of_the_project_pass() {
+    let ran = st9_in(&root(), &["test", "cases"], b"").with_code(0);
+    assert_eq!(ran.err, "");
+    assert_eq!(ran.out.lines().count(), 1, "{}", ran.out);
+    let counts = last(&ran);
+    assert!(counts.contains(" passed, 0 failed; ") && counts.contains(" met, 0 unmet"), "{counts}");
+    let weak = ["not reached", "without an expectation", "unexpected"];
+    assert!(!weak.iter().any(|weak| counts.contains(weak)), "{counts}");
+}
+
 #[test]
 fn each_case_starts_afresh() {
     passes(

@@ -51,7 +51,7 @@ return
 
 wait INTC0
 + refused 3 at step 2 after 1 arbitration | refused 3 at step 2 | refused 3
-- refused 4 | refused 4 at step 2 | refused 3 at step 1 | refused 3 at step 3
+- refused 4 | refused 4 at step 2 | refused 3 at step 1 | refused 3 at step 3 | refused 3 before any step
 - refused 3 at step 2 after 2 arbitrations | refused 3 at step 2 after 0 arbitrations | never
 - not acknowledged after 1 arbitration | acknowledged
 return
@@ -80,13 +80,13 @@ fn waits_and_bounds_for_sources_that_are_not_there() {
     for source in ["CH0", "channel 0", "8", "19", "4294967295"] {
         for call in ["wait", "bound"] {
             let block = format!(
-                "{call} {source}\n+ refused 4\n- refused 3\n- refused 2\n- refused 3 at step 0\n\
+                "{call} {source}\n+ refused 4\n+ refused 4 before any step\n- refused 3\n- refused 3 before any step\n- refused 2\n- refused 3 at step 0\n\
                  - never\n- none\n- none: not pending\n- acknowledged\nread R256\nexpect refused 3"
             );
             assert_table(START, &block);
         }
     }
-    let wait = "wait CH2\n+ refused 4\n- refused 4 at step 0\n- refused 4 at step 1\narbitrate";
+    let wait = "wait CH2\n+ refused 4 | refused 4 before any step\n- refused 4 at step 0\n- refused 4 at step 1\narbitrate";
     assert_table(RECORDS, wait);
 }
 
@@ -230,6 +230,7 @@ reset
 run
 + refused 3 at step 2 | refused 3
 - refused 4 at step 2 | refused 3 at step 1 | refused 3 at step 3 | refused 4 | done 2 steps
+- refused 3 before any step
 - done 2 steps last none
 return
 arbitrate

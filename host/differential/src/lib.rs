@@ -2,15 +2,17 @@
 //!
 //! A [`Pair`] holds an image twice, one copy lent to the exports and one to the model, and makes each call on both. It compares the flat answers of
 //! `include/st9.h` field by field and the images whole, and sees that the channel bytes, the words and the memory around every lent part stay as
-//! they were. [`generate`] makes the images, lists and steps from fixed seeds; [`Tally`] counts what was answered.
+//! they were. [`generate`] makes the images, lists and steps from fixed seeds; [`Tally`] counts what was answered. [`Plain`] is the model for scenarios.
 
 pub mod flat;
 pub mod generate;
 mod lent;
 mod pair;
+mod plain;
 mod random;
 mod tally;
 
 pub use pair::Pair;
+pub use plain::Plain;
 pub use random::Random;
 pub use tally::{Call, Tally};

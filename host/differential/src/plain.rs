@@ -1,0 +1,135 @@
+//! The plain model as a model of scenarios.
+
+use model::{Bounded, Ran, Waited};
+use scenario::Model;
+use st9::{
+    Answer, Bound, Channel, Done, Effect, Premise, Refusal, RunError, Source, Step, Wait, WaitError,
+};
+
+/// The crate `model`.
+#[derive(Clone, Copy, Debug)]
+pub struct Plain;
+
+impl Model for Plain {
+    fn step(&self, image: &mut [u8], channels: &[Channel], step: Step) -> Result<Answer, Refusal> {
+        answer(model::step(image, &records(channels), step.word()))
+    }
+
+    fn run(&self, image: &mut [u8], channels: &[Channel], words: &[u64]) -> Result<Done, RunError> {
+        match model::run(image, &records(channels), words) {
+            Ran::NoSteps => Ok(Done { steps: 0, last: None }),
+            Ran::Done { steps, last } => match answer(last) {
+                Ok(last) => Ok(Done { steps, last: Some(last) }),
+                Err(refusal) => panic!("the plain model calls a run done that was {refusal:?}"),
+            },
+            Ran::RefusedCall(why) => Err(RunError::Call(refusal(why))),
+            Ran::RefusedStep { refusal: why, index } => {
+                Err(RunError::Step { refusal: refusal(why), index })
+            }
+        }
+    }
+
+    fn wait(
+        &self,
+        image: &mut [u8],
+        channels: &[Channel],
+        source: Source,
+        words: &[u64],
+    ) -> Result<Wait, WaitError> {
+        match model::wait(image, &records(channels), source.0, words) {
+            Waited::Ended { arbitrations } => Ok(Wait::Ended { arbitrations: arbitrations as u64 }),
+            Waited::Acknowledged { arbitrations } => {
+                Ok(Wait::Acknowledged { arbitrations: arbitrations as u64 })
+            }
+            Waited::RefusedCall(why) => Err(WaitError::Call(refusal(why))),
+            Waited::RefusedStep { refusal: why, index, arbitrations } => Err(WaitError::Step {
+                refusal: refusal(why),
+                index,
+                arbitrations: arbitrations as u64,
+            }),
+        }
+    }
+
+    fn bound(
+        &self,
+        image: &[u8],
+        channels: &[Channel],
+        source: Source,
+        words: &[u64],
+    ) -> Result<Bound, Refusal> {
+        let premise = match model::bound(image, &records(channels), source.0, words) {
+            Bounded::Refused(why) => return Err(refusal(why)),
+            Bounded::Within { outranking, triggers, bound } => {
+                return Ok(Bound::Within {
+                    outranking: outranking as u64,
+                    triggers: triggers as u64,
+                    bound: bound as u64,
+                })
+            }
+            Bounded::Nested => Premise::Nested,
+            Bounded::DmaEnabled => Premise::DmaEnabled,
+            Bounded::TopLevelEnabled => Premise::TopLevelEnabled,
+            Bounded::TopLevelInService => Premise::TopLevelInService,
+            Bounded::NotPending => Premise::NotPending,
+            Bounded::Masked => Premise::Masked,
+            Bounded::LevelNotAbove => Premise::LevelNotAbove,
+            Bounded::OtherStep { index } => Premise::OtherStep { index },
+            Bounded::InterruptsDisabled { index } => Premise::InterruptsDisabled { index },
+        };
+        Ok(Bound::Fails(premise))
+    }
+
+    fn view<'a>(&self, image: &'a [u8], page: u32) -> Result<&'a [u8], Refusal> {
+        model::view(image, page).map_err(refusal)
+    }
+}
+
+/// The plain model's records.
+fn records(channels: &[Channel]) -> Vec<model::Channel> {
+    let record = |channel: &Channel| {
+        let Channel { page, idcr, ivr, dcpr, dapr, data, direction } = *channel;
+        model::Channel { page, idcr, ivr, dcpr, dapr, data, direction }
+    };
+    channels.iter().map(record).collect()
+}
+
+fn answer(plain: model::Answer) -> Result<Answer, Refusal> {
+    Ok(match plain {
+        model::Answer::Byte(byte) => Answer::Byte(byte),
+        model::Answer::Written { lost } => Answer::Written { erased: lost },
+        model::Answer::Triggered { maskable, tlip } => {
+            Answer::Triggered { maskable: effect(maskable), tlip: effect(tlip) }
+        }
+        model::Answer::Nothing => Answer::Nothing,
+        model::Answer::TopLevel { vector } => Answer::TopLevel { vector },
+        model::Answer::Interrupt { source, level, vector } => {
+            Answer::Interrupt { source: Source(source.into()), level, vector }
+        }
+        model::Answer::Transferred { source, ended } => {
+            Answer::Transferred { source: Source(source.into()), ended }
+        }
+        model::Answer::Returned => Answer::Returned,
+        model::Answer::Reset => Answer::Reset,
+        model::Answer::Refused(why) => return Err(refusal(why)),
+    })
+}
+
+fn effect(plain: model::Effect) -> Effect {
+    match plain {
+        model::Effect::NotSelected => Effect::NotSelected,
+        model::Effect::Raised => Effect::Raised,
+        model::Effect::Merged => Effect::Merged,
+    }
+}
+
+fn refusal(plain: model::Refusal) -> Refusal {
+    match plain {
+        model::Refusal::BadLength => Refusal::ImageLength,
+        model::Refusal::BadList => Refusal::ChannelList,
+        model::Refusal::BadRegister => Refusal::Register,
+        model::Refusal::BadNumber => Refusal::Number,
+        model::Refusal::MemoryTransfer => Refusal::MemoryTransfer,
+        model::Refusal::BadPointer => Refusal::Pointer,
+        model::Refusal::UnknownKind => Refusal::UnknownKind,
+    }
+}
