@@ -54,6 +54,17 @@ fn readme_shows_the_reviewers_cases() {
 }
 
 #[test]
+fn readme_shows_the_reviewers_questions() {
+    let readme = document("README.md");
+    let out = st9_in(&root(), &["run", "cases/alarms.st9"], b"").with_code(0).out;
+    assert!(readme.contains("./st9 run cases/alarms.st9"));
+    for start in ["case over-temperature;", "3  write EIPR 00h  ", "case both pending;"] {
+        let block = block(&readme, start);
+        assert!(out.contains(&block), "{block}");
+    }
+}
+
+#[test]
 fn guide_shows_its_scenario() {
     let guide = document("docs/GUIDE.md");
     let scenario = block(&guide, "image zero  ");
