@@ -1,4 +1,4 @@
-//! The plain model as a model of scenarios.
+//! The plain model, as scenarios call it.
 
 use model::{Bounded, Ran, Waited};
 use scenario::Model;

@@ -10,7 +10,7 @@ use std::path::{Path, PathBuf};
 
 /// What `cases/` holds, so that a case that gets lost is seen.
 const TOTALS: Totals =
-    Totals { files: 21, cases: 633, steps: 4127, calls: 429, expectations: 1841 };
+    Totals { files: 21, cases: 636, steps: 4136, calls: 432, expectations: 1844 };
 
 #[derive(Debug, Default, PartialEq, Eq)]
 struct Totals {
