@@ -176,7 +176,7 @@ impl<'a> CallReport<'a> {
                     None => format!("done: {steps}, last answer: none (the list is empty)"),
                 }
             }
-            Err(RunError::Call(refusal)) => refused(*refusal),
+            Err(RunError::Call(refusal)) => refused_before(*refusal),
             Err(RunError::Step { refusal, index }) => {
                 refused_at(*refusal, self.case, self.from + index, "")
             }
@@ -243,6 +243,11 @@ impl<'a> CallReport<'a> {
     }
 }
 
+/// A run or a wait refused for what is lent or for its source.
+fn refused_before(refusal: Refusal) -> String {
+    format!("{}, before any step", refused(refusal))
+}
+
 /// A refusal at a step of a list: `refused with 3 at step 2 (line 4; meaning)`.
 fn refused_at(refusal: Refusal, case: &Case, index: usize, more: &str) -> String {
     let line = case.line_of(index);
@@ -262,7 +267,7 @@ pub fn waited_words(waited: Result<Wait, WaitError>, case: &Case, from: usize) -
             let made = counted(arbitrations, "arbitration");
             format!("not acknowledged, the list ended after {made}")
         }
-        Err(WaitError::Call(refusal)) => refused(refusal),
+        Err(WaitError::Call(refusal)) => refused_before(refusal),
         Err(WaitError::Step { refusal, index, arbitrations }) => {
             let made = format!(", after {}", counted(arbitrations, "arbitration"));
             refused_at(refusal, case, from + index, &made)

@@ -331,18 +331,18 @@ impl Reader<'_> {
         Ok(Expected::Transferred { source, ended })
     }
 
-    /// `refused with 3 at step 1 after 2 arbitrations`.
+    /// `refused with 3 at step 1 after 2 arbitrations`, `refused with 4 before any step`.
     fn refused(&mut self) -> Result<Expected, Problem> {
         self.taken("with");
         let refusal = |word: &[u8]| Refusal::from_number(number(word)?);
         let number = self.words.take(REFUSAL, refusal)?.number();
-        let at = match self.taken("before") {
-            true => {
-                self.all_taken(&["any", "step"]);
-                Some(RefusedAt::BeforeAnyStep)
-            }
-            false => self.at_step()?.map(RefusedAt::Step),
-        };
+        let words = self.words.0.len();
+        self.all_taken(&["before", "any", "step"]);
+        if self.words.0.len() < words {
+            let at = Some(RefusedAt::BeforeAnyStep);
+            return Ok(Expected::Refused { number, at, arbitrations: None });
+        }
+        let at = self.at_step()?.map(RefusedAt::Step);
         Ok(Expected::Refused { number, at, arbitrations: self.after_arbitrations()? })
     }
 

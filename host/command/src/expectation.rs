@@ -260,8 +260,8 @@ impl Expected {
                 Expected::Done { steps, last } => {
                     let met = |last: &Expected| match report.last() {
                         Some(answer) => last.is_met_by_step(&answer),
-                        // Document 01: none for an empty list.
-                        None => *last == Expected::Nothing,
+                        // Document 01: none for an empty list, and for no other.
+                        None => *last == Expected::Nothing && done.last.is_none() && *steps == 0,
                     };
                     *steps == done.steps && last.as_deref().is_none_or(met)
                 }
@@ -320,9 +320,14 @@ impl Expected {
                 None => format!("an image without {}", place.written()),
             },
             (Expected::Changed(_), _) => changed_words(&came.changes()),
-            (Expected::Refused { .. }, _) => match came.changes_by_refusal() {
-                changes if changes.is_empty() => came.words(),
-                changes => format!("{}, and {}", came.words(), changed_words(&changes)),
+            (Expected::Refused { at, .. }, _) => match (came.changes_by_refusal(), at, came) {
+                (changes, _, _) if !changes.is_empty() => {
+                    format!("{}, and {}", came.words(), changed_words(&changes))
+                }
+                (_, Some(_), Came::Step(report)) if report.answer.is_err() => {
+                    format!("{}: of a step its number alone is expected", came.words())
+                }
+                _ => came.words(),
             },
             _ => came.words(),
         }

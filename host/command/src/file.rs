@@ -141,8 +141,13 @@ struct Reading {
     first: Option<First>,
     current: Draft,
     cases: Vec<Case>,
+    /// The steps by `repeat`.
+    repeated: usize,
     warnings: Vec<ScenarioError>,
 }
+
+/// The most steps that `repeat` makes of one file: a short one may not fill the memory.
+const MOST_REPEATED: usize = 10_000_000;
 
 /// A case that is being read.
 #[derive(Default)]
@@ -180,7 +185,15 @@ impl Reading {
         match statement {
             Statement::Case(title) => self.case(title, line),
             Statement::Again(words) => self.again(words, line),
-            other => self.current.add(other, line).map_err(wrong),
+            Statement::Repeat { count, .. } if MOST_REPEATED - self.repeated < count => {
+                Err(wrong(format!("too many steps: expected at most {MOST_REPEATED} by repeat")))
+            }
+            other => {
+                if let Statement::Repeat { count, .. } = other {
+                    self.repeated += count;
+                }
+                self.current.add(other, line).map_err(wrong)
+            }
         }
     }
 
@@ -396,6 +409,11 @@ impl Case {
     /// The line of a step, 0 where there is none.
     pub fn line_of(&self, index: usize) -> u32 {
         self.steps.get(index).map_or(0, |step| step.line)
+    }
+
+    /// The steps up to the end of a line, which may repeat one.
+    pub(crate) fn after_line(&self, line: u32) -> usize {
+        self.steps.partition_point(|step| step.line <= line)
     }
 
     /// The step of a line; those of a `repeat` are all the same.

@@ -232,7 +232,7 @@ impl<'a, M: Model, T: FnMut(Event)> Follower<'a, M, T> {
             let words = &self.words[from.min(self.words.len())..];
             let made = Made { call: *call, line: *line, from };
             let report = CallReport::of(self.model, made, words, &image, self.case);
-            let (expects, expected) = self.expects(from, Came::Call(&report));
+            let (expects, expected) = self.expects(from, from, Came::Call(&report));
             (self.tell)(Event::Call(&report, expected));
             self.compare(expects, Came::Call(&report));
             let refusal = report.refusal().filter(|_| !expected);
@@ -251,7 +251,8 @@ impl<'a, M: Model, T: FnMut(Event)> Follower<'a, M, T> {
         let Some(step) = self.case.steps.get(index).copied() else {
             return true;
         };
-        if self.ends_before(group(self.asks, index + 1)) {
+        let line_end = self.case.after_line(step.line);
+        if self.ends_before(group(self.asks, line_end)) {
             return false;
         }
         let mut after = std::mem::take(&mut self.followed.image);
@@ -259,7 +260,7 @@ impl<'a, M: Model, T: FnMut(Event)> Follower<'a, M, T> {
         let Case { channels, names, .. } = self.case;
         let answer = self.model.step(&mut after, channels, step.operation.step);
         let report = Report { index, step, answer, before, after: &after, channels, names };
-        let (expects, expected) = self.expects(index + 1, Came::Step(&report));
+        let (expects, expected) = self.expects(index + 1, line_end, Came::Step(&report));
         (self.tell)(Event::Step(&report, expected));
         self.compare(expects, Came::Step(&report));
         self.followed.changed = self.followed.changed || *before != *after;
@@ -292,14 +293,16 @@ impl<'a, M: Model, T: FnMut(Event)> Follower<'a, M, T> {
 
     /// Takes the expectations of what came; whether it is a refusal and one of them says so, with the number that came.
     /// That decides alone whether the case goes on: bytes that a model changed all the same are told of the expectation.
-    fn expects(&mut self, after: usize, came: Came) -> (&'a [Ask], bool) {
+    /// Of a repeated step the line's expectations say so, which are compared after the last.
+    fn expects(&mut self, after: usize, line_end: usize, came: Came) -> (&'a [Ask], bool) {
         let expects = group(self.asks, after);
+        let of_line = group(self.asks, line_end);
         self.asks = &self.asks[expects.len()..];
         let says_so = |ask: &Ask| match &ask.what {
             Asked::Expect(expect) => expect.what.is_refusal(came),
             Asked::Call(_) => false,
         };
-        (expects, expects.iter().any(says_so))
+        (expects, of_line.iter().any(says_so))
     }
 
     /// Compares the expectations of a step or a call, and tells each.

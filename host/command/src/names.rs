@@ -69,7 +69,7 @@ pub(crate) fn source(word: &[u8]) -> Option<Source> {
 const LONGEST: usize = 32;
 
 /// The words of statements and expectations, which are no names of one's own.
-const RESERVED: &str = "above acknowledged after again and answer arbitrate arbitration arbitrations as at block bound by \
+const RESERVED: &str = "above acknowledged after again and answer any arbitrate arbitration arbitrations as at before block bound by \
     byte bytes case changed channel counted dapr data dcpr direction disabled dma done edge enabled \
     ended erased expect fails falling fill has idcr if image in interrupts ip is ivr last latest \
     level list mark masked merged mode moved name nested never nmi no none not nothing of one other \

@@ -99,11 +99,7 @@ impl Report {
     }
 
     fn waited_words(&self, case: &Case) -> String {
-        let words = waited_words(self.waited, case, 0);
-        match self.waited {
-            Err(WaitError::Call(_)) => format!("{words}, before any step"),
-            _ => words,
-        }
+        waited_words(self.waited, case, 0)
     }
 
     fn note(&self, case: &Case) -> Option<String> {

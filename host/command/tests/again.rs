@@ -142,3 +142,12 @@ fn saves() {
     let ran = st9(&["run", "-", "--save", "none/end.bin"], scenario).with_code(2);
     assert!(ran.err.contains("with 2 cases: expected a file of one case"), "{}", ran.err);
 }
+
+/// A title is printed as it can be read, and an image that is not there is told at its own line.
+#[test]
+fn words_and_images_of_its_own() {
+    let ran = run("image zero\ncase a\nreturn\nagain \u{7}bell\nreturn\n").with_code(0);
+    assert!(!ran.out.contains('\u{7}') && ran.out.contains("bell"), "{}", ran.out);
+    let ran = run("image zero\ncase a\nreturn\nagain\nimage nowhere.bin\nreturn\n").with_code(2);
+    assert!(ran.err.contains(":5: image nowhere.bin: "), "{}", ran.err);
+}

@@ -548,7 +548,7 @@ write NICR 00h
 
 read R256
 + refused 3 | changed nothing | CICR 97h
-- changed CICR 97h | CICR 87h
+- changed CICR 97h | CICR 87h | refused 3 before any step | refused 3 at step 0 | refused 3 after 0 arbitrations
 ";
 
 const BYTES_AND_CHANGES_OF_RECORDS: &str = "\

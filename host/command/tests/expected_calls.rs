@@ -230,7 +230,7 @@ reset
 run
 + refused 3 at step 2 | refused 3
 - refused 4 at step 2 | refused 3 at step 1 | refused 3 at step 3 | refused 4 | done 2 steps
-- refused 3 before any step
+- refused 3 before any step | refused 3 at step 2 after 0 arbitrations | refused 3 after 0 arbitrations
 - done 2 steps last none
 return
 arbitrate
@@ -284,7 +284,7 @@ fn views() {
         format!("set R240.p9 FFh\nset PPR 0\nview 9\n+ bytes FFh{rest}\n- bytes 3Fh{rest}");
     assert_table(RECORDS, &format!("{stored}\n- bytes{zero}\nwrite PPR 24h\nwrite R240 0\n"));
     for page in ["64", "255", "4294967295"] {
-        let block = format!("view {page}\n+ refused 3\n- refused 4\n- refused 1\n- bytes{zero}");
+        let block = format!("view {page}\n+ refused 3\n+ refused 3 before any step\n- refused 3 at step 0\n- refused 4\n- refused 1\n- bytes{zero}");
         assert_table(START, &block);
     }
 }

@@ -63,19 +63,43 @@ arbitrate";
     assert_table(START, table);
 }
 
-/// A refusal before the last of them has no expectation: it ends the case.
+/// With the line's `expect refused N` the case goes on after each; another number ends it at the first.
 #[test]
 fn refusals() {
-    let scenario = "image zero\nrepeat 3 read R256\nexpect refused 3\n";
-    let ran = run(scenario).with_code(1);
-    let end = "ended by the refusal at step 0 (line 2): 0 steps done, 2 not done\nexpectations: 0 met, 1 not reached\n";
+    let repeated =
+        |number| format!("image zero\nrepeat 3 read R256\nexpect refused {number}\nreturn\n");
+    let ran = run(&repeated(3)).with_code(0);
+    let end = "done: 1 step, 3 refused as expected\nexpectations: 1 met\n";
     assert!(ran.out.ends_with(end), "{}", ran.out);
-    let ran = st9(&["test", "-", "--json"], scenario).with_code(3);
+    let ran = run(&repeated(4)).with_code(1);
+    let end = "ended by the refusal at step 0 (line 2): 0 steps done, 3 not done\nexpectations: 0 met, 1 not reached\n";
+    assert!(ran.out.ends_with(end), "{}", ran.out);
+    let ran = st9(&["test", "-", "--json"], &repeated(4)).with_code(3);
     let case = of_type(&ran.out, "case").pop().expect("a case");
     assert_eq!((case.number("refusal"), case.number("at")), (3, 2));
-    let short = |count| format!("image zero 1264\nrepeat {count} return\nexpect refused 1\n");
-    assert!(run(&short(2)).with_code(1).out.contains("before any step"));
-    run(&short(1)).with_code(0);
+    let short = "image zero 1264\nrepeat 2 return\n";
+    run(&format!("{short}expect refused 1\n")).with_code(0);
+    assert!(run(short).with_code(1).out.contains("before any step"));
+    // The expectation of one line is not that of another.
+    run("image zero\nread R256\nread R256\nexpect refused 3\n").with_code(1);
+    run("image zero\nrepeat 2 read R256\nrepeat 2 read R256\nexpect refused 3\n").with_code(1);
+}
+
+#[test]
+fn names_of_ones_own() {
+    run("image zero\nname FAN INTC0\nrepeat 2 edge FAN falling\nexpect merged FAN\n").with_code(0);
+}
+
+/// A short file may not fill the memory; cases count together.
+#[test]
+fn steps_of_a_file() {
+    let text = |repeats: usize| {
+        let lines = "repeat 1000000 return\nagain\n".repeat(repeats);
+        format!("image zero\ncase a\n{lines}")
+    };
+    assert!(Scenario::parse(text(10).as_bytes()).is_ok());
+    let error = Scenario::parse(text(11).as_bytes()).expect_err("too many");
+    assert_eq!(error.to_string(), "23: too many steps: expected at most 10000000 by repeat");
 }
 
 #[test]

@@ -1,9 +1,10 @@
-//! Cases that are followed on a model which slips: it changes a byte where it refuses. The proved one cannot.
+//! Cases that are followed on a model which slips: it changes a byte where it refuses, and an empty run has a last
+//! answer. The proved one cannot.
 
 use scenario::{follow, Comparison, End, Event, Followed, ImageName, Model, Scenario};
 use st9::{Answer, Bound, Channel, Done, Refusal, RunError, Source, Step, Wait, WaitError};
 
-/// The proved model, but what it refuses flips a bit of EIPR all the same.
+/// The proved model, but what it refuses flips a bit of EIPR all the same, and an empty run's last answer is a return's.
 struct Slipped;
 
 fn slip<T, E>(image: &mut [u8], answer: Result<T, E>) -> Result<T, E> {
@@ -21,6 +22,7 @@ impl Model for Slipped {
 
     fn run(&self, image: &mut [u8], channels: &[Channel], words: &[u64]) -> Result<Done, RunError> {
         let answer = st9::run(image, channels, words);
+        let answer = answer.map(|done| Done { last: done.last.or(Some(Answer::Returned)), ..done });
         slip(image, answer)
     }
 
@@ -77,10 +79,14 @@ fn assert_met(statements: &str, expected: &[bool]) -> Followed {
 
 #[test]
 fn words() {
-    let (_, comparisons) = followed("image zero\nread R256\nexpect refused 3\n");
-    let refusal = Refusal::Register;
-    let came = format!("refused with 3 ({refusal}), and changed EIPR 00h -> 01h");
-    assert_eq!((comparisons[0].met, &comparisons[0].came), (false, &came));
+    for (step, refusal) in
+        [("read R256", Refusal::Register), ("step 6000000000000h", Refusal::UnknownKind)]
+    {
+        let number = refusal.number();
+        let (_, comparisons) = followed(&format!("image zero\n{step}\nexpect refused {number}\n"));
+        let came = format!("refused with {number} ({refusal}), and changed EIPR 00h -> 01h");
+        assert_eq!((comparisons[0].met, &comparisons[0].came), (false, &came));
+    }
 }
 
 /// The right number is passed over whatever bytes changed; another one ends the case.
@@ -139,4 +145,10 @@ fn what_is_lent() {
         let twice = format!("arbitrate\nexpect refused {number}\n").repeat(2);
         assert_eq!(assert_met(&format!("{lent}{twice}"), &[false, false]).refused, 2);
     }
+}
+
+#[test]
+fn an_empty_run() {
+    let run = "image zero\nrun\nexpect done 0 steps\nexpect done 0 steps last none\n";
+    assert_met(run, &[true, false]);
 }
