@@ -2,15 +2,16 @@
 
 use differential::Plain;
 use scenario::{
-    counted, follow, refused, Ask, Asked, Call, Case, Comparison, Event, Followed, Model, Proved,
-    Scenario,
+    counted, follow, refused, Ask, Asked, Call, Case, Comparison, Event, Expected, Followed, Model,
+    Proved, RefusedAt, Scenario,
 };
+use st9::{Effect, Premise};
 use std::fs;
 use std::path::{Path, PathBuf};
 
 /// What `cases/` holds, so that a case that gets lost is seen.
 const TOTALS: Totals =
-    Totals { files: 21, cases: 636, steps: 4136, calls: 432, expectations: 1844 };
+    Totals { files: 21, cases: 637, steps: 4136, calls: 432, expectations: 1851 };
 
 #[derive(Debug, Default, PartialEq, Eq)]
 struct Totals {
@@ -131,33 +132,117 @@ impl Start {
         differences
     }
 
-    /// The steps and calls of which nothing is expected. A step has an expectation of its own, or a call over it has one.
-    fn unasserted(&self) -> Vec<String> {
+    /// The calls, and the steps before the first call over steps, each with its line and what is expected of it. The steps
+    /// after that are part of the call's answer.
+    fn asked(&self) -> Vec<(u32, Of, Vec<&Expected>)> {
         let Case { steps, asks, .. } = &self.case;
-        let expects =
-            |place: usize| matches!(asks.get(place), Some(Ask { what: Asked::Expect(_), .. }));
-        let mut unasserted = Vec::new();
+        let mut asked = Vec::new();
         let mut covered_from = steps.len();
-        for (place, ask) in asks.iter().enumerate() {
-            let Asked::Call(call) = ask.what else { continue };
-            if !expects(place + 1) {
-                unasserted.push(self.failure(ask.line, &format!("{call} has no expectation")));
-            } else if !matches!(call, Call::View(_)) {
-                covered_from = covered_from.min(ask.after);
+        for (place, Ask { after, line, what }) in asks.iter().enumerate() {
+            let Asked::Call(call) = *what else { continue };
+            asked.push((*line, Of::Call(call), expected(&asks[place + 1..], *after)));
+            if !matches!(call, Call::View(_)) {
+                covered_from = covered_from.min(*after);
             }
         }
         for (index, step) in steps.iter().enumerate().take(covered_from) {
-            let first = asks.iter().position(|ask| ask.after == index + 1);
-            if !first.is_some_and(expects) {
-                let what = format!("{} has no expectation", step.operation);
-                unasserted.push(self.failure(step.line, &what));
-            }
+            let place = asks.partition_point(|ask| ask.after <= index);
+            asked.push((step.line, Of::Step, expected(&asks[place..], index + 1)));
+        }
+        asked
+    }
+
+    /// The steps and calls of which an expectation leaves something open, or there is none of their answer or their bytes.
+    fn open(&self) -> Vec<String> {
+        let mut open = Vec::new();
+        for (line, of, expected) in self.asked() {
+            let left = expected.iter().find_map(|expected| left_open(of, expected));
+            let left = left.or_else(|| missing(of, &expected));
+            open.extend(left.map(|left| self.failure(line, &format!("nothing is said of {left}"))));
         }
         if self.case.expectations() == 0 {
-            unasserted.push(self.failure(self.case.line as u64, "expects nothing"));
+            open.push(self.failure(self.case.line as u64, "expects nothing"));
         }
-        unasserted
+        open
     }
+}
+
+/// What is expected: of a step, or of a call.
+#[derive(Clone, Copy)]
+enum Of {
+    Step,
+    Call(Call),
+}
+
+/// The expectations after so many steps, up to the next call.
+fn expected(asks: &[Ask], after: usize) -> Vec<&Expected> {
+    let own = asks.iter().map_while(|ask| match &ask.what {
+        Asked::Expect(expect) if ask.after == after => Some(&expect.what),
+        _ => None,
+    });
+    own.collect()
+}
+
+/// What an expectation leaves open though the answer has it.
+fn left_open(of: Of, expected: &Expected) -> Option<&'static str> {
+    let open = match expected {
+        Expected::Triggered(bits) => {
+            let named = |(bit, effect): &(_, Effect)| {
+                Option::is_some(bit) || *effect == Effect::NotSelected
+            };
+            (!bits.iter().all(named), "the bit")
+        }
+        Expected::TopLevel { vector } => (vector.is_none(), "the vector"),
+        Expected::Interrupt { level, vector, .. } => {
+            (level.is_none() || vector.is_none(), "level and vector")
+        }
+        Expected::Acknowledged { arbitration, .. } => (arbitration.is_none(), "the arbitration"),
+        Expected::Never { arbitrations } => (arbitrations.is_none(), "the arbitrations"),
+        Expected::Within { outranking, triggers, .. } => {
+            (outranking.is_none() || triggers.is_none(), "H and E")
+        }
+        Expected::Nothing => (matches!(of, Of::Call(_)), "the premise"),
+        Expected::Fails { premise, step } => {
+            let at_step = Premise::OtherStep { index: 0 };
+            let disabled = Premise::InterruptsDisabled { index: 0 };
+            (step.is_none() && (*premise == at_step || *premise == disabled), "the step")
+        }
+        Expected::Done { last, .. } => match last {
+            Some(last) => return left_open(Of::Step, last),
+            None => (true, "the last answer"),
+        },
+        Expected::Refused { at, arbitrations, .. } => return refusal_open(of, *at, *arbitrations),
+        Expected::Changed(bytes) => {
+            (bytes.iter().any(|(_, old, _)| old.is_none()), "the old bytes")
+        }
+        _ => (false, ""),
+    };
+    open.0.then_some(open.1)
+}
+
+fn refusal_open(of: Of, at: Option<RefusedAt>, made: Option<u64>) -> Option<&'static str> {
+    match (of, at, made) {
+        (Of::Call(Call::Run | Call::Wait(_)), None, _) => Some("the place"),
+        (Of::Call(Call::Wait(_)), Some(RefusedAt::Step(_)), None) => Some("the arbitrations"),
+        _ => None,
+    }
+}
+
+/// What no expectation is about: the answer, or the bytes that changed where some may.
+fn missing(of: Of, expected: &[&Expected]) -> Option<&'static str> {
+    let bytes =
+        |expected: &&&Expected| matches!(expected, Expected::Changed(_) | Expected::Stored { .. });
+    let Some(answer) = expected.iter().find(|expected| !bytes(expected)) else {
+        return Some("the answer");
+    };
+    let keeps = match (of, answer) {
+        (Of::Call(Call::Bound(_) | Call::View(_)), _) | (Of::Step, Expected::Byte(_)) => true,
+        (Of::Step, Expected::Refused { .. }) => true,
+        (_, Expected::Refused { at, .. }) => *at == Some(RefusedAt::BeforeAnyStep),
+        _ => false,
+    };
+    let changed = |expected: &&Expected| matches!(expected, Expected::Changed(_));
+    (!keeps && !expected.iter().any(changed)).then_some("the bytes that changed")
 }
 
 /// Panics with what fails of any case, all at once.
@@ -181,9 +266,10 @@ fn both_models_leave_the_same_bytes() {
     assert_none(Start::differences);
 }
 
+/// Each says all that is to be said: a case that gets weaker is seen.
 #[test]
-fn assert_every_step_and_call() {
-    assert_none(Start::unasserted);
+fn leave_nothing_open() {
+    assert_none(Start::open);
 }
 
 #[test]
@@ -196,4 +282,18 @@ fn none_is_lost() {
         totals.calls += case.asks.len() - case.expectations();
     }
     assert_eq!(totals, TOTALS);
+}
+
+/// `cases/README.md` has a row for each file, and no other.
+#[test]
+fn are_listed() {
+    let readme = fs::read_to_string(folder().join("README.md")).expect("cases/README.md");
+    let rows = readme.lines().filter(|line| line.starts_with("| `"));
+    let cells = rows.filter_map(|row| row.split('|').nth(1));
+    let mut listed: Vec<_> = cells.flat_map(|cell| cell.split('`').skip(1).step_by(2)).collect();
+    listed.sort_unstable();
+    let files = files();
+    let mut names: Vec<_> = files.iter().filter_map(|path| path.file_stem()?.to_str()).collect();
+    names.sort_unstable();
+    assert_eq!(listed, names);
 }
