@@ -6,17 +6,20 @@ use scenario::{
     Proved, RefusedAt, Scenario,
 };
 use st9::{Effect, Premise};
+use std::collections::HashSet;
 use std::fs;
 use std::path::{Path, PathBuf};
 
 /// What `cases/` holds, so that a case that gets lost is seen.
 const TOTALS: Totals =
-    Totals { files: 21, cases: 637, steps: 4136, calls: 432, expectations: 1851 };
+    Totals { files: 21, cases: 637, distinct: 632, steps: 4136, calls: 432, expectations: 1851 };
 
 #[derive(Debug, Default, PartialEq, Eq)]
 struct Totals {
     files: usize,
     cases: usize,
+    /// Those that start or ask otherwise than every other.
+    distinct: usize,
     steps: usize,
     calls: usize,
     expectations: usize,
@@ -275,12 +278,16 @@ fn leave_nothing_open() {
 #[test]
 fn none_is_lost() {
     let mut totals = Totals { files: files().len(), ..Totals::default() };
-    for Start { case, .. } in starts() {
+    let mut distinct = HashSet::new();
+    for Start { case, image, .. } in starts() {
         totals.cases += 1;
         totals.steps += case.steps.len();
         totals.expectations += case.expectations();
         totals.calls += case.asks.len() - case.expectations();
+        let asked = case.asks.iter().map(|ask| format!("{:?}", ask.what)).collect::<Vec<_>>();
+        distinct.insert((image, format!("{:?}", case.channels), case.words(), asked));
     }
+    totals.distinct = distinct.len();
     assert_eq!(totals, TOTALS);
 }
 
