@@ -12,7 +12,7 @@ ghost use Rattle.rules.specs.Runs.{oneIf};
 ghost use Rattle.rules.specs.Answers.{refusalNumber, toldVerdict, effectNumber, flat, tell, tellRefused, told, toldRun, toldWait, toldBound};
 
 // Document 01's number of a refusal.
-pub fn refusal_number(r: Refusal) -> u64
+fn refusal_number(r: Refusal) -> u64
     ensures { λ n. ⌜ n ≡ refusalNumber r ⌝ }
 {
     match r {

@@ -25,7 +25,7 @@ pub fn page_byte(page: u8, register: u8) -> usize
 }
 
 // The bytes of a record's registers.
-pub fn places_of(c: Channel) -> Places
+fn places_of(c: Channel) -> Places
     requires { ⌜ recordOk c ≡ true ⌝ }
     ensures { λ p. ⌜ p ≡ placesOf c ⌝ }
 {

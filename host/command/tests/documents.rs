@@ -65,6 +65,18 @@ fn readme_shows_the_reviewers_questions() {
 }
 
 #[test]
+fn readme_counts_the_cases() {
+    let readme = document("README.md");
+    let out = st9_in(&root(), &["test", "cases"], b"").with_code(0).out;
+    let numbers: Vec<_> =
+        out.split(|end: char| !end.is_ascii_digit()).filter(|n| !n.is_empty()).collect();
+    let [cases, _, _, expectations, ..] = numbers[..] else { panic!("{out}") };
+    let (thousands, rest) = expectations.split_at(expectations.len() - 3);
+    let counted = format!("{cases} cases with {thousands},{rest} expectations");
+    assert!(readme.contains(&counted), "{counted}");
+}
+
+#[test]
 fn guide_shows_its_scenario() {
     let guide = document("docs/GUIDE.md");
     let scenario = block(&guide, "image zero  ");
