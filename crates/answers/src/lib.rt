@@ -1,5 +1,6 @@
 // Answers as numbers, for C and for comparing: a kind for each case, document 01's number of a refusal, and the values of the case.
 use rules::Answer;
+use rules::Basis;
 use rules::Bounded;
 use rules::Effect;
 use rules::Flat;
@@ -9,7 +10,7 @@ use rules::Verdict;
 use rules::Waited;
 ghost use mathlib.Core.Path.{_≡_};
 ghost use Rattle.rules.specs.Runs.{oneIf};
-ghost use Rattle.rules.specs.Answers.{refusalNumber, toldVerdict, effectNumber, flat, tell, tellRefused, told, toldRun, toldWait, toldBound};
+ghost use Rattle.rules.specs.Answers.{refusalNumber, toldVerdict, effectNumber, flat, tell, tellRefused, told, toldRun, toldWait, basisNumber, toldBound};
 
 // Document 01's number of a refusal.
 fn refusal_number(r: Refusal) -> u64
@@ -66,15 +67,15 @@ fn values(kind: u64, first: u64, second: u64, third: u64) -> Flat
     }
 }
 
-// An answer that names a step by its index.
-fn at_step(kind: u64, index: usize) -> Flat
-    ensures { λ f. ⌜ f ≡ flat kind 0 index 0 0 0 ⌝ }
+// An answer that names a step by its index, with a value.
+fn at_step(kind: u64, index: usize, first: u64) -> Flat
+    ensures { λ f. ⌜ f ≡ flat kind 0 index first 0 0 ⌝ }
 {
     Flat {
         kind,
         refusal: 0,
         steps: index as u64,
-        first: 0,
+        first,
         second: 0,
         third: 0,
     }
@@ -172,7 +173,22 @@ pub fn of_wait(w: Waited) -> Flat
     }
 }
 
-// Of demand 3's bound.
+// What a write changed, by number.
+fn basis_number(b: Basis) -> u64
+    ensures { λ n. ⌜ n ≡ basisNumber b ⌝ }
+{
+    match b {
+        Basis::Pending => 1,
+        Basis::Mode => 2,
+        Basis::CurrentLevel => 3,
+        Basis::TopLevel => 4,
+        Basis::Mask => 5,
+        Basis::DmaEnable => 6,
+        Basis::Level => 7,
+    }
+}
+
+// Of a bound.
 pub fn of_bound(b: Bounded) -> Flat
     ensures { λ f. ⌜ f ≡ toldBound b ⌝ }
 {
@@ -185,8 +201,9 @@ pub fn of_bound(b: Bounded) -> Flat
         Bounded::NotPending => values(19, 0, 0, 0),
         Bounded::Masked => values(20, 0, 0, 0),
         Bounded::LevelNotAbove => values(21, 0, 0, 0),
-        Bounded::OtherStep { index } => at_step(22, index),
-        Bounded::InterruptsDisabled { index } => at_step(23, index),
+        Bounded::OtherStep { index } => at_step(22, index, 0),
+        Bounded::InterruptsDisabled { index } => at_step(23, index, 0),
+        Bounded::Changed { basis, index } => at_step(25, index, basis_number(basis)),
         Bounded::Within {
             outranking,
             triggers,

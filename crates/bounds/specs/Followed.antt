@@ -1,5 +1,6 @@
 -- Names for the private functions of `bound` and for its loop: what a step's answer tells of demand 3's triggers, and the steps followed so far.
 -- Assumes nothing.
+use mathlib.Core.Path.{_≡_}
 use mathlib.Core.Bool.{Bool, true, false, cond, not, _&&_}
 use mathlib.Core.List.{List}
 use mathlib.Core.Option.{some}
@@ -15,12 +16,25 @@ use Rattle.rules.specs.declared.Effect.the-variants as effect
 use Rattle.rules.specs.declared.Answer.{Answer}
 use Rattle.rules.specs.declared.Answer.the-variants as answer
 use Rattle.rules.specs.declared.Bounded.{Bounded}
+use Rattle.bounds.specs.declared.Premises.{Premises}
+use Rattle.bounds.specs.declared.Premises.the-variants as premises
 use Rattle.rules.specs.Image.{Image}
 use Rattle.rules.specs.Channels.{mostRecords}
 use Rattle.rules.specs.Sources.{sources}
 use Rattle.rules.specs.Runs.{Event, isArbitration}
 use Rattle.rules.specs.Waiting.{rival, triggersOf}
 use Rattle.rules.specs.Bounds.{firstFrom, otherStep, disabledStep, stepsElse}
+
+-- ---- the premises on the start
+
+-- what is answered by whether some premises hold: b, or the first that fails
+abbrev pub answeredBy : Premises → Bounded → Bounded
+answeredBy premises.Hold b = b
+answeredBy (premises.Fail q) b = q
+
+-- a choice of the first premise that fails or else of b (Bounds `sourceElse`, `startElse`) is decided
+abbrev pub Decides : (Bounded → Bounded) → Premises → Type 0
+Decides f p = (b : Bounded) → f b ≡ answeredBy p b
 
 -- ---- the source that a step triggered
 

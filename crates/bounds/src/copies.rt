@@ -12,7 +12,7 @@ fn zeros() -> [u8; IMAGE_LENGTH]
 }
 
 // The image, byte for byte.
-pub(crate) fn copy_of(image: &[u8]) -> [u8; IMAGE_LENGTH]
+pub fn copy_of(image: &[u8]) -> [u8; IMAGE_LENGTH]
     requires { ⌜ length (now image) ≡ imageLength ⌝ }
     ensures { λ m. ⌜ m ≡ now (image .entry) ⌝ }
 {

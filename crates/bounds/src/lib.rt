@@ -4,7 +4,7 @@ mod targets;
 
 use arbiter::in_service;
 use bits::has_bit;
-use copies::copy_of;
+pub use copies::copy_of;
 use dispatch::act;
 use dispatch::decode;
 use dispatch::is_arbitration;
@@ -41,8 +41,8 @@ ghost use Rattle.rules.specs.Sources.{sources};
 ghost use Rattle.rules.specs.Steps.{stepsOf};
 ghost use Rattle.rules.specs.Runs.{history, oneIf};
 ghost use Rattle.rules.specs.Waiting.{isCall};
-ghost use Rattle.rules.specs.Bounds.{calmElse, sourceElse, boundIn};
-ghost use Rattle.bounds.specs.Followed.{rivalTriggered, firstDisabled};
+ghost use Rattle.rules.specs.Bounds.{sourceElse, startElse, boundIn};
+ghost use Rattle.bounds.specs.Followed.{rivalTriggered, firstDisabled, Decides};
 
 // Whether a step was done that is no trigger, arbitration or return; a refused one is none.
 fn other_step(step: Step, a: Answer) -> bool
@@ -72,7 +72,7 @@ fn first_disabled(first: usize, end: usize, i: usize, step: Step, enabled: bool)
 
 // 1 where a step, by its answer, was a trigger of an unmasked source outranking ours on this image, else 0. A source that was triggered is there; that it is, is tested all the
 // same, since `is_rival` asks it and this function does not know where the answer comes from.
-fn rival_trigger(image: &[u8], all: Channels, ours: usize, step: Step, a: Answer) -> usize
+pub fn rival_trigger(image: &[u8], all: Channels, ours: usize, step: Step, a: Answer) -> usize
     requires { ⌜ (length (now image) ≡ imageLength) × (listOk (listOf all) ≡ true) × (ours < sources (listOf all)) ⌝ }
     ensures { λ n. ⌜ n ≡ oneIf (rivalTriggered (now (image .entry)) (listOf all) ours step a) ⌝ }
 {
@@ -119,40 +119,57 @@ fn followed(image: &[u8], all: Channels, ours: usize, words: &[u64]) -> Bounded
     }
 }
 
-// The premises on the source, then those on the steps.
-fn source_bound(image: &[u8], all: Channels, ours: usize, words: &[u64]) -> Bounded
-    requires { ⌜ (length (now image) ≡ imageLength) × (listOk (listOf all) ≡ true) × (ours < sources (listOf all)) ⌝ }
-    ensures { λ b. ⌜ b ≡ sourceElse (now (image .entry)) (listOf all) ours (boundIn (now (image .entry)) (listOf all) ours (history (state (now (image .entry))) (listOf all) (stepsOf (now (words .entry))))) ⌝ }
-{
-    if !is_pending(image, all, ours) {
-        return Bounded::NotPending;
-    }
-    if !is_unmasked(image, all, ours) {
-        return Bounded::Masked;
-    }
-    if level_of(image, all, ours) < image[CICR] % 8 {
-        return followed(image, all, ours, words);
-    }
-    Bounded::LevelNotAbove
+// Whether some premises hold, or the first of them that fails.
+pub enum Premises {
+    Hold,
+    Fail(Bounded),
 }
 
-// The premises on the image and the list, then those on the source.
-pub fn bound_accepted(image: &[u8], all: Channels, source: u32, words: &[u64]) -> Bounded
+// The premises on the source.
+fn source_premises(image: &[u8], all: Channels, ours: usize) -> Premises
+    requires { ⌜ (length (now image) ≡ imageLength) × (listOk (listOf all) ≡ true) × (ours < sources (listOf all)) ⌝ }
+    ensures { λ p. ⌜ Decides (sourceElse (now (image .entry)) (listOf all) ours) p ⌝ }
+{
+    if !is_pending(image, all, ours) {
+        return Premises::Fail(Bounded::NotPending);
+    }
+    if !is_unmasked(image, all, ours) {
+        return Premises::Fail(Bounded::Masked);
+    }
+    if level_of(image, all, ours) < image[CICR] % 8 {
+        return Premises::Hold;
+    }
+    Premises::Fail(Bounded::LevelNotAbove)
+}
+
+// The premises on the start: on the image and the list, then on the source.
+pub fn start_premises(image: &[u8], all: Channels, source: u32) -> Premises
     requires { ⌜ (length (now image) ≡ imageLength) × (listOk (listOf all) ≡ true) × (source < sources (listOf all)) ⌝ }
-    ensures { λ b. ⌜ b ≡ calmElse (now (image .entry)) (listOf all) (sourceElse (now (image .entry)) (listOf all) source (boundIn (now (image .entry)) (listOf all) source (history (state (now (image .entry))) (listOf all) (stepsOf (now (words .entry)))))) ⌝ }
+    ensures { λ p. ⌜ Decides (startElse (now (image .entry)) (listOf all) source) p ⌝ }
 {
     let cicr = image[CICR];
     if has_bit(cicr, IAM) {
-        return Bounded::Nested;
+        return Premises::Fail(Bounded::Nested);
     }
     if any_dma(image, all) {
-        return Bounded::DmaEnabled;
+        return Premises::Fail(Bounded::DmaEnabled);
     }
     if has_bit(image[NICR], TLNM) | has_bit(cicr, TLI) {
-        return Bounded::TopLevelEnabled;
+        return Premises::Fail(Bounded::TopLevelEnabled);
     }
     if in_service(image) {
-        return Bounded::TopLevelInService;
+        return Premises::Fail(Bounded::TopLevelInService);
     }
-    source_bound(image, all, source as usize, words)
+    source_premises(image, all, source as usize)
+}
+
+// The premises on the start, then those on the steps.
+pub fn bound_accepted(image: &[u8], all: Channels, source: u32, words: &[u64]) -> Bounded
+    requires { ⌜ (length (now image) ≡ imageLength) × (listOk (listOf all) ≡ true) × (source < sources (listOf all)) ⌝ }
+    ensures { λ b. ⌜ b ≡ startElse (now (image .entry)) (listOf all) source (boundIn (now (image .entry)) (listOf all) source (history (state (now (image .entry))) (listOf all) (stepsOf (now (words .entry))))) ⌝ }
+{
+    match start_premises(image, all, source) {
+        Premises::Hold => followed(image, all, source as usize, words),
+        Premises::Fail(b) => b,
+    }
 }

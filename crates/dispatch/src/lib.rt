@@ -14,7 +14,8 @@ ghost use Rattle.rules.specs.Image.{imageLength, state};
 ghost use Rattle.rules.specs.Channels.{listOk, listOf};
 ghost use Rattle.rules.specs.Outcomes.{outcome, verdictOf};
 ghost use Rattle.rules.specs.Steps.{actOf};
-ghost use Rattle.rules.specs.Runs.{isArbitration, oneIf};
+ghost use Rattle.rules.specs.Runs.{isArbitration, oneIf, acknowledges};
+ghost use Rattle.rules.specs.Handlers.{isWrite};
 
 // One step.
 pub fn act(image: &mut [u8], all: Channels, step: Step) -> Answer
@@ -81,4 +82,45 @@ pub fn arbitrations(step: Step) -> usize
         return 1;
     }
     0
+}
+
+// Whether a step is a write.
+pub fn is_write(step: Step) -> bool
+    ensures { λ b. ⌜ b ≡ isWrite step ⌝ }
+{
+    match step {
+        Step::Read(_) => false,
+        Step::Write(_, _) => true,
+        Step::Trigger(_) => false,
+        Step::Arbitrate => false,
+        Step::Return => false,
+        Step::Reset => false,
+        Step::Unknown => false,
+    }
+}
+
+// Whether an answer acknowledges a source: as an interrupt, not by DMA.
+pub fn acknowledged(a: Answer, source: u32) -> bool
+    ensures { λ b. ⌜ b ≡ acknowledges source a ⌝ }
+{
+    match a {
+        Answer::NoStep => false,
+        Answer::Byte(_) => false,
+        Answer::Written(_) => false,
+        Answer::Triggered(_, _) => false,
+        Answer::Nothing => false,
+        Answer::TopLevel => false,
+        Answer::Interrupt {
+            source: k,
+            level: _,
+            vector: _,
+        } => (k as u32) == source,
+        Answer::Transferred {
+            source: _,
+            ended: _,
+        } => false,
+        Answer::Returned => false,
+        Answer::Reset => false,
+        Answer::Refused(_) => false,
+    }
 }

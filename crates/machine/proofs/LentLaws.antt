@@ -13,9 +13,11 @@ use Rattle.rules.specs.Image.{Image, state}
 use Rattle.rules.specs.Outcomes.{Outcome, outcome}
 use Rattle.rules.specs.Steps.{lentVerdict, actIf, stepOf, stepsOf}
 use Rattle.rules.specs.Runs.{history, RunOutcome, runOutcome, runIf, runOf, WaitOutcome, waitOutcome, waitVerdict, waitIf, waitOf}
-use Rattle.rules.specs.Bounds.{boundIf, boundOf}
+use Rattle.rules.specs.Handlers.{upTo}
+use Rattle.rules.specs.Bounds.{startElse, boundIn, unlessRefused, boundOf}
+use Rattle.rules.specs.HandlerBounds.{handlerBoundIn, handlerBoundOf}
 use Rattle.rules.specs.Answers.{told, toldRun, toldWait, toldBound}
-use Rattle.rules.specs.Promises.{Does, Runs, Waits, Bounds}
+use Rattle.rules.specs.Promises.{Does, Runs, Waits, Bounds, HandlerBounds}
 
 module _ (m m' : Image) (cs : List Channel) (v : Verdict) where
   -- a step that answers and leaves what the definition says by its verdict keeps the promise
@@ -40,8 +42,15 @@ module _ (m m' : Image) (cs : List Channel) (v : Verdict) where
       let p = e ∙ ap (λ (u : Verdict). waitIf u (state m) cs source (stepsOf ws)) (sym l) in
       (ap (λ (o : WaitOutcome). toldWait (o .answer)) p, ap (λ (o : WaitOutcome). o .state .image) p)
 
--- so does a bound, which leaves the image as it was
-pub bounds-by : (m : Image) (cs : List Channel) (v : Verdict) (source : ℕ) (ws : List ℕ) (b : Bounded) → waitVerdict (state m) cs source ≡ v
-    → b ≡ boundIf v m cs source (history (state m) cs (stepsOf ws)) → Bounds m cs source ws b
-unfolding boundOf
-bounds-by m cs v source ws b l e = ap toldBound (e ∙ ap (λ (u : Verdict). boundIf u m cs source (history (state m) cs (stepsOf ws))) (sym l))
+-- so does a bound, which leaves the image as it was: demand 3's, and that of Handlers
+module _ (m : Image) (cs : List Channel) (v : Verdict) (source : ℕ) (ws : List ℕ) (b : Bounded) (l : waitVerdict (state m) cs source ≡ v) where
+  abbrev refusedOr : Bounded → Verdict → Bounded
+  refusedOr c u = unlessRefused u (startElse m cs source c)
+
+  pub bounds-by : b ≡ refusedOr (boundIn m cs source (history (state m) cs (stepsOf ws))) v → Bounds m cs source ws b
+  unfolding boundOf
+  bounds-by e = ap toldBound (e ∙ ap (refusedOr (boundIn m cs source (history (state m) cs (stepsOf ws)))) (sym l))
+
+  pub handler-bounds-by : b ≡ refusedOr (handlerBoundIn m cs source (upTo source (history (state m) cs (stepsOf ws)))) v → HandlerBounds m cs source ws b
+  unfolding handlerBoundOf
+  handler-bounds-by e = ap toldBound (e ∙ ap (refusedOr (handlerBoundIn m cs source (upTo source (history (state m) cs (stepsOf ws))))) (sym l))

@@ -1,10 +1,11 @@
-// The model with the channel list by value: the refusals of what is lent, the six steps, a step given as a word, runs, the wait report and demand 3's bound.
+// The model with the channel list by value: the refusals of what is lent, the six steps, a step given as a word, runs, the wait report and the two bounds.
 // Any image, any list and any step gets an answer.
 mod runs;
 
 use bounds::bound_accepted;
 use dispatch::act;
 use dispatch::decode;
+use handlers::handler_bound_accepted;
 use rules::Answer;
 use rules::Bounded;
 use rules::Channels;
@@ -23,7 +24,7 @@ ghost use Rattle.rules.specs.Image.{state};
 ghost use Rattle.rules.specs.Channels.{listOf};
 ghost use Rattle.rules.specs.Steps.{lentVerdict};
 ghost use Rattle.rules.specs.Runs.{waitVerdict};
-ghost use Rattle.rules.specs.Promises.{Does, Reads, Writes, Triggers, Arbitrates, Returns, Resets, DoesWord, Runs, Waits, Bounds};
+ghost use Rattle.rules.specs.Promises.{Does, Reads, Writes, Triggers, Arbitrates, Returns, Resets, DoesWord, Runs, Waits, Bounds, HandlerBounds};
 
 // What is lent: refused with 1, then with 2.
 fn lent_verdict(image: &[u8], all: Channels) -> Verdict
@@ -141,6 +142,16 @@ pub fn bound(image: &[u8], all: Channels, source: u32, words: &[u64]) -> Bounded
 {
     match wait_verdict(image, all, source) {
         Verdict::Accepted => bound_accepted(image, all, source, words),
+        Verdict::Refused(r) => Bounded::Refused(r),
+    }
+}
+
+// The bound over lists with reads and writes, likewise; of a write that changed what the bound rests on, what it changed.
+pub fn handler_bound(image: &[u8], all: Channels, source: u32, words: &[u64]) -> Bounded
+    ensures { λ b. ⌜ HandlerBounds (now (image .entry)) (listOf all) source (now (words .entry)) b ⌝ }
+{
+    match wait_verdict(image, all, source) {
+        Verdict::Accepted => handler_bound_accepted(image, all, source, words),
         Verdict::Refused(r) => Bounded::Refused(r),
     }
 }

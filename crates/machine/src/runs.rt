@@ -1,4 +1,5 @@
 // Runs and wait reports on an image and a list that are accepted.
+use dispatch::acknowledged;
 use dispatch::act;
 use dispatch::arbitrations;
 use dispatch::decode;
@@ -14,7 +15,7 @@ ghost use lib.ListN.{length};
 ghost use Rattle.rules.specs.Image.{imageLength, state};
 ghost use Rattle.rules.specs.Channels.{listOk, listOf};
 ghost use Rattle.rules.specs.Steps.{stepsOf};
-ghost use Rattle.rules.specs.Runs.{runOutcome, runReport, runEvents, acknowledges, waitOutcome, waitReport, waitEvents};
+ghost use Rattle.rules.specs.Runs.{runOutcome, runReport, runEvents, waitOutcome, waitReport, waitEvents};
 
 // The steps one after another, up to the first refused.
 pub(crate) fn run_accepted(image: &mut [u8], all: Channels, words: &[u64]) -> Ran
@@ -39,32 +40,6 @@ pub(crate) fn run_accepted(image: &mut [u8], all: Channels, words: &[u64]) -> Ra
         }
     }
     Ran::Done { steps, last }
-}
-
-// Whether an answer acknowledges a source: as an interrupt, not by DMA.
-fn acknowledged(a: Answer, source: u32) -> bool
-    ensures { λ b. ⌜ b ≡ acknowledges source a ⌝ }
-{
-    match a {
-        Answer::NoStep => false,
-        Answer::Byte(_) => false,
-        Answer::Written(_) => false,
-        Answer::Triggered(_, _) => false,
-        Answer::Nothing => false,
-        Answer::TopLevel => false,
-        Answer::Interrupt {
-            source: k,
-            level: _,
-            vector: _,
-        } => (k as u32) == source,
-        Answer::Transferred {
-            source: _,
-            ended: _,
-        } => false,
-        Answer::Returned => false,
-        Answer::Reset => false,
-        Answer::Refused(_) => false,
-    }
 }
 
 // The same up to the acknowledgement of a source, if there is one; every arbitration is counted that isn't refused.

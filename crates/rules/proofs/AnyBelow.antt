@@ -1,9 +1,10 @@
 -- Whether some number below n passes a test. Assumes nothing.
 use mathlib.Core.Path.{_≡_, refl, sym, ap, _∙_}
 use mathlib.Core.Bool.{Bool, true, false, false≢true, _||_}
-use Prim.Native.Nat.{ℕ, zero, suc, _<_}
+use Prim.Native.Nat.{ℕ, zero, suc, _+_, _<_}
 use native.Mathlib.Nat.{not-suc-le-zero, le-refl}
 use native.Mathlib.Omega.{arith}
+use native.Mathlib.Numerals.{add-one}
 use native.Mathlib.Decide.{ℕ-discrete}
 use Rattle.rules.specs.Bounds.{anyBelow}
 use Rattle.rules.proofs.Bools.{or-l, or-r}
@@ -42,3 +43,8 @@ module _ (p : ℕ → Bool) where
       go : (anyBelow n p ≡ true → (k : ℕ) × (k < n) × (p k ≡ true)) → (b : Bool) → p n ≡ b → (b || anyBelow n p) ≡ true → (k : ℕ) × (k < suc n) × (p k ≡ true)
       go ih true d e = (n, le-refl (suc n), d)
       go ih false d e = let r = ih e in (r .0, omega (arith, r .1), r .2)
+
+  -- none below n, and not n
+  pub none-more : (n : ℕ) → anyBelow n p ≡ false → p n ≡ false → anyBelow (n + 1) p ≡ false
+  unfolding anyBelow
+  none-more n h e = rw (add-one n, e) h

@@ -1,18 +1,20 @@
 -- Counts of the numbers below n that pass a test, where two tests differ at one number at most; then of the pending sources of a set, where
--- one source's pending bit changes at most. Assumes nothing.
+-- one source's pending bit changes at most, or any do. Assumes nothing.
 use mathlib.Core.Path.{_≡_, refl, sym, ap, ap₂, _∙_}
 use mathlib.Core.Logic.{_≢_}
-use mathlib.Core.Bool.{Bool, true, false, _&&_}
+use mathlib.Core.Bool.{Bool, true, false, not, _&&_}
 use mathlib.Core.List.{List}
 use Prim.Native.Nat.{ℕ, zero, suc, _+_, _≤_, _<_}
 use native.Mathlib.Nat.{not-suc-le-zero, le-suc, le-trans, le-refl}
 use native.Mathlib.Omega.{arith}
+use native.Mathlib.Numerals.{add-one}
 use native.Mathlib.Decide.{ℕ-discrete}
 use Rattle.rules.specs.declared.Channel.{Channel}
 use Rattle.rules.specs.Image.{Image}
 use Rattle.rules.specs.Sources.{sources, pending}
 use Rattle.rules.specs.Runs.{oneIf}
 use Rattle.rules.specs.Waiting.{countBelow, pendingOf}
+use Rattle.rules.specs.Handlers.{raised}
 use Rattle.rules.proofs.Bools.{both}
 
 -- `oneIf` is at most 1
@@ -26,11 +28,22 @@ unfolding countBelow
 count-le p zero = omega arith
 count-le p (suc n) = omega (arith, one-le (p n), count-le p n)
 
+-- one number further: at most one more, and counted
+pub count-more : (p : ℕ → Bool) (k n x : ℕ) → n ≡ countBelow k p → x ≡ oneIf (p k) → (x ≤ 1) × (n + x ≡ countBelow (k + 1) p)
+unfolding countBelow
+count-more p k n x e d = (omega (arith, one-le (p k)), rw (add-one k) (omega arith))
+
 -- the tests agree everywhere
 pub count-same : (p q : ℕ → Bool) (n : ℕ) → ((k : ℕ) → k < n → q k ≡ p k) → countBelow n q ≡ countBelow n p
 unfolding countBelow
 count-same p q zero h = refl
 count-same p q (suc n) h = ap₂ (λ (b : Bool) (x : ℕ). oneIf b + x) (h n (le-refl (suc n))) (count-same p q n (λ k l. h k (le-trans l (le-suc n))))
+
+-- where q passes, p passes or d does
+pub count-sum : (p q d : ℕ → Bool) (n : ℕ) → ((k : ℕ) → oneIf (q k) ≤ oneIf (p k) + oneIf (d k)) → countBelow n q ≤ countBelow n p + countBelow n d
+unfolding countBelow
+count-sum p q d zero h = omega arith
+count-sum p q d (suc n) h = omega (arith, h n, count-sum p q d n h)
 
 -- they agree everywhere but at w: q may pass there besides
 pub count-up : (p q : ℕ → Bool) (w n : ℕ) → ((k : ℕ) → k < n → k ≢ w → q k ≡ p k) → countBelow n q ≤ countBelow n p + oneIf (q w)
@@ -81,6 +94,19 @@ module _ (cs : List Channel) (m m' : Image) (r : ℕ → Bool) where
   one-and : (a b : Bool) → oneIf (a && b) ≤ oneIf b
   one-and true b = omega arith
   one-and false b = omega arith
+
+  newly : (before after b : Bool) → oneIf (after && b) ≤ oneIf (before && b) + oneIf (not before && after && b)
+  newly true true b = omega arith
+  newly true false b = omega arith
+  newly false true b = omega arith
+  newly false false b = omega arith
+
+  -- no more than before, and those that were raised
+  pub pendingOf-raised : pendingOf m' cs r ≤ pendingOf m cs r + raised cs r m m'
+  unfolding pendingOf raised
+  pendingOf-raised =
+      count-sum (counts m cs r) (counts m' cs r) (λ k. not (pending m cs k) && pending m' cs k && r k) (sources cs)
+      (λ k. newly (pending m cs k) (pending m' cs k) (r k))
 
   -- one more may be pending
   pub pendingOf-up : (w : ℕ) → ((k : ℕ) → k < sources cs → k ≢ w → pending m' cs k ≡ pending m cs k) → pendingOf m' cs r ≤ pendingOf m cs r + oneIf (r w)

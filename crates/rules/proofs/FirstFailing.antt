@@ -1,4 +1,4 @@
--- Demand 3's bound, a second reading of the answers that give none: the premises before the one that is answered hold, and that one fails. Assumes nothing.
+-- The bound, a second reading of the answers that give none: the premises before the one that is answered hold, and that one fails. Assumes nothing.
 use mathlib.Core.Path.{_≡_, refl}
 use mathlib.Core.Logic.{_⊎_, inl, inr}
 use mathlib.Core.List.{List, [], _∷_}
@@ -13,15 +13,18 @@ use Rattle.rules.specs.declared.Channel.{Channel}
 use Rattle.rules.specs.declared.Step.{Step}
 use Rattle.rules.specs.declared.Verdict.{Verdict}
 use Rattle.rules.specs.declared.Verdict.the-variants as verdict
+use Rattle.rules.specs.declared.Basis.{Basis}
 use Rattle.rules.specs.declared.Bounded.{Bounded}
 use Rattle.rules.specs.declared.Bounded.the-variants as bounded
 use Rattle.rules.specs.Image.{Image, state, has, inService, CPL, IAM, TLI, TLNM}
 use Rattle.rules.specs.Sources.{sources, pending, unmasked, dmaEnabled, level}
 use Rattle.rules.specs.Runs.{Event, history, anyEvent, waitVerdict}
-use Rattle.rules.specs.Waiting.{H, E}
-use Rattle.rules.specs.Bounds.{anyDma, calmElse, sourceElse, otherStep, disabledStep, firstFrom, stepsElse, boundIn, boundIf, boundOf}
+use Rattle.rules.specs.Waiting.{H, E, Start}
+use Rattle.rules.specs.Bounds.{anyDma, calmElse, sourceElse, startElse, otherStep, disabledStep, firstFrom, stepsElse, boundIn, unlessRefused, boundOf}
 use Rattle.rules.proofs.Bools.{impossible, or-l}
 use Rattle.rules.proofs.AnyBelow.{any-some, none-passes}
+use Rattle.rules.proofs.Refusals.{lent-sound}
+use Rattle.rules.proofs.WaitLaws.{accepted-lent, accepted-source}
 
 -- ---- the index of the first event of a kind
 
@@ -53,7 +56,7 @@ module _ (p : Event → Bool) where
 
 -- ---- the premises, in order
 
-module _ (m : Image) (cs : List Channel) (s : ℕ) (es : List Event) where
+module _ (m : Image) (cs : List Channel) (s : ℕ) where
   -- within the rules, and the source is there
   abbrev Accepted : Type 0
   Accepted = waitVerdict (state m) cs s ≡ verdict.Accepted
@@ -83,67 +86,106 @@ module _ (m : Image) (cs : List Channel) (s : ℕ) (es : List Event) where
   Open = Waits × (unmasked m cs s ≡ true)
 
   -- and its level above the current one
-  abbrev Above : Type 0
+  abbrev pub Above : Type 0
   Above = Open × (level m cs s < CPL m)
 
-  -- the premises before it hold, and it fails
-  abbrev pub Failing : Bounded → Type 0
-  Failing (bounded.Refused r) = waitVerdict (state m) cs s ≡ verdict.Refused r
-  Failing bounded.Nested = Accepted × (has m IAM ≡ true)
-  Failing bounded.DmaEnabled = Concurrent × (k : ℕ) × (k < sources cs) × (dmaEnabled m cs k ≡ true)
-  Failing bounded.TopLevelEnabled = NoDma × ((has m TLNM ≡ true) ⊎ (has m TLI ≡ true))
-  Failing bounded.TopLevelInService = TopDisabled × (inService m ≡ true)
-  Failing bounded.NotPending = Idle × (pending m cs s ≡ false)
-  Failing bounded.Masked = Waits × (unmasked m cs s ≡ false)
-  Failing bounded.LevelNotAbove = Open × (CPL m ≤ level m cs s)
-  Failing (bounded.OtherStep i) = Above × FirstAt otherStep es i
-  Failing (bounded.InterruptsDisabled i) = Above × (anyEvent otherStep es ≡ false) × FirstAt disabledStep es i
-  Failing (bounded.Within h e k) = Above × (anyEvent otherStep es ≡ false) × (anyEvent disabledStep es ≡ false)
+  -- all of them are demand 3's start
+  pub above-start : Above → Start m cs s
+  above-start f =
+      let source = f .0 in
+      let idle = source .0 .0 in
+      let top = idle .0 in
+      let mode = top .0 .0 in
+      let lent = lent-sound (state m) cs (accepted-lent (state m) cs s (mode .0)) in
+      record {
+        calm =
+            record {
+              long = lent .0;
+              listed = lent .1;
+              concurrent = mode .1;
+              noDma = top .0 .1;
+              noTLI = top .2;
+              noTLNM = top .1;
+              idle = idle .1;
+            };
+        there = accepted-source (state m) cs s (mode .0);
+        waits = source .0 .1;
+        unmaskedThere = source .1;
+        above = f .1;
+      }
 
-  -- of the steps
-  steps-failing : Above → (o d : Option ℕ) (h e : ℕ) → firstFrom 0 otherStep es ≡ o → firstFrom 0 disabledStep es ≡ d → Failing (stepsElse o d h e)
+  -- the premises before it hold, and it fails; what is said of the answers on the steps is given
+  module _ (Other : ℕ → Type 0) (Change : Basis → ℕ → Type 0) (Disabled : ℕ → Type 0) (All : Type 0) where
+    abbrev pub FailingBy : Bounded → Type 0
+    FailingBy (bounded.Refused r) = waitVerdict (state m) cs s ≡ verdict.Refused r
+    FailingBy bounded.Nested = Accepted × (has m IAM ≡ true)
+    FailingBy bounded.DmaEnabled = Concurrent × (k : ℕ) × (k < sources cs) × (dmaEnabled m cs k ≡ true)
+    FailingBy bounded.TopLevelEnabled = NoDma × ((has m TLNM ≡ true) ⊎ (has m TLI ≡ true))
+    FailingBy bounded.TopLevelInService = TopDisabled × (inService m ≡ true)
+    FailingBy bounded.NotPending = Idle × (pending m cs s ≡ false)
+    FailingBy bounded.Masked = Waits × (unmasked m cs s ≡ false)
+    FailingBy bounded.LevelNotAbove = Open × (CPL m ≤ level m cs s)
+    FailingBy (bounded.OtherStep i) = Above × Other i
+    FailingBy (bounded.Changed a i) = Above × Change a i
+    FailingBy (bounded.InterruptsDisabled i) = Above × Disabled i
+    FailingBy (bounded.Within h e k) = Above × All
+
+    module _ (b : Bounded) (steps : Above → FailingBy b) where
+      -- of the source
+      source-failing : Idle → FailingBy (sourceElse m cs s b)
+      unfolding sourceElse
+      source-failing c = go (pending m cs s) (unmasked m cs s) (ltb (level m cs s) (CPL m)) refl refl refl
+        where
+          go : (waits mask above : Bool) → pending m cs s ≡ waits → unmasked m cs s ≡ mask → ltb (level m cs s) (CPL m) ≡ above
+              → FailingBy (cond waits (cond mask (cond above b bounded.LevelNotAbove) bounded.Masked) bounded.NotPending)
+          go false mask above p q r = (c, p)
+          go true false above p q r = ((c, p), q)
+          go true true false p q r = (((c, p), q), ltb-false (level m cs s) (CPL m) r)
+          go true true true p q r = steps (((c, p), q), ltb-true (level m cs s) (CPL m) r)
+
+      -- of the image and the list
+      pub start-failing : Accepted → FailingBy (startElse m cs s b)
+      unfolding calmElse
+      start-failing a = go (has m IAM) (anyDma m cs) (has m TLNM) (has m TLI) (inService m) refl refl refl refl refl
+        where
+          no-dma : anyDma m cs ≡ false → (k : ℕ) → k < sources cs → dmaEnabled m cs k ≡ false
+          no-dma q k h = none-passes (dmaEnabled m cs) (sources cs) k q h
+
+          go : (iam dma tlnm tli mark : Bool) → has m IAM ≡ iam → anyDma m cs ≡ dma → has m TLNM ≡ tlnm → has m TLI ≡ tli → inService m ≡ mark
+              → FailingBy (cond iam bounded.Nested (cond dma bounded.DmaEnabled (cond (tlnm || tli) bounded.TopLevelEnabled (cond mark bounded.TopLevelInService (sourceElse m cs s b)))))
+          go true dma tlnm tli mark p q r t u = (a, p)
+          go false true tlnm tli mark p q r t u = let k = any-some (dmaEnabled m cs) (sources cs) q in ((a, p), k .0, k .1, k .2)
+          go false false true tli mark p q r t u = (((a, p), no-dma q), inl r)
+          go false false false true mark p q r t u = (((a, p), no-dma q), inr t)
+          go false false false false true p q r t u = ((((a, p), no-dma q), r, t), u)
+          go false false false false false p q r t u = source-failing ((((a, p), no-dma q), r, t), u)
+
+-- ---- demand 3's steps
+
+module _ (m : Image) (cs : List Channel) (s : ℕ) (es : List Event) where
+  abbrev pub Failing : Bounded → Type 0
+  Failing =
+      FailingBy m cs s (FirstAt otherStep es) (λ a i. ⊥) (λ i. (anyEvent otherStep es ≡ false) × FirstAt disabledStep es i)
+      ((anyEvent otherStep es ≡ false) × (anyEvent disabledStep es ≡ false))
+
+  steps-failing : Above m cs s → (o d : Option ℕ) (h e : ℕ) → firstFrom 0 otherStep es ≡ o → firstFrom 0 disabledStep es ≡ d → Failing (stepsElse o d h e)
   steps-failing a (some i) d h e p q = let f = first-at otherStep 0 es i p in let n : f .0 ≡ i = omega (arith, f .1) in (a, rw n at (f .2))
   steps-failing a none (some i) h e p q =
       let f = first-at disabledStep 0 es i q in
       let n : f .0 ≡ i = omega (arith, f .1) in
-      (a, first-none otherStep 0 es p, rw n at (f .2))
-  steps-failing a none none h e p q = (a, first-none otherStep 0 es p, first-none disabledStep 0 es q)
-
-  -- of the source
-  source-failing : Idle → Failing (sourceElse m cs s (boundIn m cs s es))
-  unfolding sourceElse boundIn
-  source-failing c = go (pending m cs s) (unmasked m cs s) (ltb (level m cs s) (CPL m)) refl refl refl
-    where
-      go : (waits mask above : Bool) → pending m cs s ≡ waits → unmasked m cs s ≡ mask → ltb (level m cs s) (CPL m) ≡ above
-          → Failing (cond waits (cond mask (cond above (stepsElse (firstFrom 0 otherStep es) (firstFrom 0 disabledStep es) (H m cs s) (E m cs s es)) bounded.LevelNotAbove) bounded.Masked) bounded.NotPending)
-      go false mask above p q r = (c, p)
-      go true false above p q r = ((c, p), q)
-      go true true false p q r = (((c, p), q), ltb-false (level m cs s) (CPL m) r)
-      go true true true p q r =
-          steps-failing (((c, p), q), ltb-true (level m cs s) (CPL m) r) (firstFrom 0 otherStep es) (firstFrom 0 disabledStep es) (H m cs s) (E m cs s es) refl refl
-
-  -- of the image and the list
-  calm-failing : Accepted → Failing (calmElse m cs (sourceElse m cs s (boundIn m cs s es)))
-  unfolding calmElse
-  calm-failing a = go (has m IAM) (anyDma m cs) (has m TLNM) (has m TLI) (inService m) refl refl refl refl refl
-    where
-      no-dma : anyDma m cs ≡ false → (k : ℕ) → k < sources cs → dmaEnabled m cs k ≡ false
-      no-dma q k h = none-passes (dmaEnabled m cs) (sources cs) k q h
-
-      go : (iam dma tlnm tli mark : Bool) → has m IAM ≡ iam → anyDma m cs ≡ dma → has m TLNM ≡ tlnm → has m TLI ≡ tli → inService m ≡ mark
-          → Failing (cond iam bounded.Nested (cond dma bounded.DmaEnabled (cond (tlnm || tli) bounded.TopLevelEnabled (cond mark bounded.TopLevelInService (sourceElse m cs s (boundIn m cs s es))))))
-      go true dma tlnm tli mark p q r t u = (a, p)
-      go false true tlnm tli mark p q r t u = let k = any-some (dmaEnabled m cs) (sources cs) q in ((a, p), k .0, k .1, k .2)
-      go false false true tli mark p q r t u = (((a, p), no-dma q), inl r)
-      go false false false true mark p q r t u = (((a, p), no-dma q), inr t)
-      go false false false false true p q r t u = ((((a, p), no-dma q), r, t), u)
-      go false false false false false p q r t u = source-failing ((((a, p), no-dma q), r, t), u)
+      (a, (first-none otherStep 0 es p, rw n at (f .2)))
+  steps-failing a none none h e p q = (a, (first-none otherStep 0 es p, first-none disabledStep 0 es q))
 
 -- each answer is the first premise that fails
 pub first-failing : (m : Image) (cs : List Channel) (s : ℕ) (xs : List Step) → Failing m cs s (history (state m) cs xs) (boundOf (state m) cs s xs)
-unfolding boundOf
+unfolding boundOf boundIn
 first-failing m cs s xs = go (waitVerdict (state m) cs s) refl
   where
-    go : (v : Verdict) → waitVerdict (state m) cs s ≡ v → Failing m cs s (history (state m) cs xs) (boundIf v m cs s (history (state m) cs xs))
-    go verdict.Accepted e = calm-failing m cs s (history (state m) cs xs) e
+    es : List Event
+    es = history (state m) cs xs
+
+    go : (v : Verdict) → waitVerdict (state m) cs s ≡ v → Failing m cs s (history (state m) cs xs) (unlessRefused v (startElse m cs s (boundIn m cs s es)))
+    go verdict.Accepted e =
+        start-failing m cs s _ _ _ _ (boundIn m cs s es)
+        (λ a. steps-failing m cs s es a (firstFrom 0 otherStep es) (firstFrom 0 disabledStep es) (H m cs s) (E m cs s es) refl refl) e
     go (verdict.Refused r) e = e

@@ -1,5 +1,5 @@
 -- An answer as numbers: a kind for each case, which is ours; document 01's number for a refusal; and the values of the case. Kinds 0 to 10 are of a step, 11 and
--- 12 refusals of a call, 13 and 14 of a wait report, 15 to 24 of a bound. Two different answers of a call are told by different numbers (proofs/Told).
+-- 12 refusals of a call, 13 and 14 of a wait report, 15 to 25 of a bound. Two different answers of a call are told by different numbers (proofs/Told).
 -- Assumes nothing.
 use Prim.Native.Nat.{ℕ}
 use Rattle.rules.specs.declared.Refusal.{Refusal}
@@ -14,6 +14,8 @@ use Rattle.rules.specs.declared.Ran.{Ran}
 use Rattle.rules.specs.declared.Ran.the-variants as ran
 use Rattle.rules.specs.declared.Waited.{Waited}
 use Rattle.rules.specs.declared.Waited.the-variants as waited
+use Rattle.rules.specs.declared.Basis.{Basis}
+use Rattle.rules.specs.declared.Basis.the-variants as basis
 use Rattle.rules.specs.declared.Bounded.{Bounded}
 use Rattle.rules.specs.declared.Bounded.the-variants as bounded
 use Rattle.rules.specs.declared.Flat.{Flat}
@@ -80,7 +82,17 @@ toldWait (waited.RefusedAt r i k) = flat 12 (refusalNumber r) i k 0 0
 toldWait (waited.Ended k) = tell 13 k 0 0
 toldWait (waited.Acknowledged k) = tell 14 k 0 0
 
--- of demand 3's bound: a refusal's number; the index of a step; H, E and the bound
+-- what a write changed, by number
+abbrev pub basisNumber : Basis → ℕ
+basisNumber basis.Pending = 1
+basisNumber basis.Mode = 2
+basisNumber basis.CurrentLevel = 3
+basisNumber basis.TopLevel = 4
+basisNumber basis.Mask = 5
+basisNumber basis.DmaEnable = 6
+basisNumber basis.Level = 7
+
+-- of a bound: a refusal's number; the index of a step, and what it changed; H, E and the bound
 abbrev pub toldBound : Bounded → Flat
 toldBound (bounded.Refused r) = tellRefused 11 r
 toldBound bounded.Nested = tell 15 0 0 0
@@ -93,3 +105,4 @@ toldBound bounded.LevelNotAbove = tell 21 0 0 0
 toldBound (bounded.OtherStep i) = flat 22 0 i 0 0 0
 toldBound (bounded.InterruptsDisabled i) = flat 23 0 i 0 0 0
 toldBound (bounded.Within h e k) = tell 24 h e k
+toldBound (bounded.Changed a i) = flat 25 0 i (basisNumber a) 0 0

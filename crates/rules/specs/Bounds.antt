@@ -44,6 +44,10 @@ unfoldable pub sourceElse : Image → List Channel → ℕ → Bounded → Bound
 sourceElse m cs s b =
     cond (pending m cs s) (cond (unmasked m cs s) (cond (ltb (level m cs s) (CPL m)) b bounded.LevelNotAbove) bounded.Masked) bounded.NotPending
 
+-- the first of all of them that fails; b where none does
+abbrev pub startElse : Image → List Channel → ℕ → Bounded → Bounded
+startElse m cs s b = calmElse m cs (sourceElse m cs s b)
+
 -- ---- the premises on the steps
 
 -- a step that is no trigger, arbitration or return, and is not refused
@@ -71,14 +75,15 @@ boundIn m cs s es = stepsElse (firstFrom 0 otherStep es) (firstFrom 0 disabledSt
 
 -- ---- the bound
 
--- the premises one after another, or the refusal
-abbrev pub boundIf : Verdict → Image → List Channel → ℕ → List Event → Bounded
-boundIf verdict.Accepted m cs s es = calmElse m cs (sourceElse m cs s (boundIn m cs s es))
-boundIf (verdict.Refused r) m cs s es = bounded.Refused r
+-- the refusal, or b where there is none
+abbrev pub unlessRefused : Verdict → Bounded → Bounded
+unlessRefused verdict.Accepted b = b
+unlessRefused (verdict.Refused r) b = bounded.Refused r
 
--- refused with 1, 2 or 4 as a wait report is; then the premises on the image and the list, on the source, and on the steps, each done on the state that the one before it left
+-- refused with 1, 2 or 4 as a wait report is; then the premises on the start, and on the steps, each done on the state that the one before it left
 unfoldable pub boundOf : State → List Channel → ℕ → List Step → Bounded
-boundOf s cs source xs = boundIf (waitVerdict s cs source) (s .image) cs source (history s cs xs)
+boundOf s cs source xs =
+    unlessRefused (waitVerdict s cs source) (startElse (s .image) cs source (boundIn (s .image) cs source (history s cs xs)))
 
 -- ---- what an answer says
 
@@ -93,6 +98,7 @@ whereBounded P Q bounded.NotPending = Q
 whereBounded P Q bounded.Masked = Q
 whereBounded P Q bounded.LevelNotAbove = Q
 whereBounded P Q (bounded.OtherStep i) = Q
+whereBounded P Q (bounded.Changed a i) = Q
 whereBounded P Q (bounded.InterruptsDisabled i) = Q
 whereBounded P Q (bounded.Within h e k) = P h e k
 

@@ -19,8 +19,10 @@ use Rattle.rules.specs.Outcomes.{outcome}
 use Rattle.rules.specs.Sources.{pending}
 use Rattle.rules.specs.Steps.{stepOf, decodeOf, stepsOf}
 use Rattle.rules.specs.Runs.{Event, stateAfter, runOf, waitOf}
-use Rattle.rules.specs.Waiting.{Demand3Of}
-use Rattle.rules.specs.Bounds.{boundOf, WaitKeeps}
+use Rattle.rules.specs.Waiting.{Demand3Of, Demand3OfRun, Demand3OfWait}
+use Rattle.rules.specs.Handlers.{HandlersOf, HandlersOfRun, HandlersOfWait}
+use Rattle.rules.specs.Bounds.{boundOf, BoundSays, WaitKeeps}
+use Rattle.rules.specs.HandlerBounds.{handlerBoundOf, HandlerBoundSays}
 use Rattle.rules.specs.Answers.{told, toldVerdict, toldRun, toldWait, toldBound}
 
 -- one step answers a and leaves `after`
@@ -60,21 +62,47 @@ abbrev pub Runs : Image → List Channel → List ℕ → Ran → Image → Type
 Runs before cs words r after =
     (toldRun r ≡ toldRun (runOf (state before) cs (stepsOf words) .answer)) × (after ≡ runOf (state before) cs (stepsOf words) .state .image)
 
+-- and what demand 3 and Handlers say of it
+abbrev pub RunKeeps : Image → List Channel → List ℕ → Ran → Image → Type 0
+RunKeeps before cs words r after =
+    Runs before cs words r after × Demand3OfRun before cs (stepsOf words) after × HandlersOfRun before cs (stepsOf words) after
+
 -- a wait report for a source over a list of words
 abbrev pub Waits : Image → List Channel → ℕ → List ℕ → Waited → Image → Type 0
 Waits before cs source words w after =
     (toldWait w ≡ toldWait (waitOf (state before) cs source (stepsOf words) .answer))
     × (after ≡ waitOf (state before) cs source (stepsOf words) .state .image)
 
+-- and what demand 3 and Handlers say of it
+abbrev pub WaitReportKeeps : Image → List Channel → ℕ → List ℕ → Waited → Image → Type 0
+WaitReportKeeps before cs source words w after =
+    Waits before cs source words w after × Demand3OfWait before cs source (stepsOf words) w after × HandlersOfWait before cs source (stepsOf words) w after
+
 -- demand 3's bound for a source over a list of words; the image is only read
 abbrev pub Bounds : Image → List Channel → ℕ → List ℕ → Bounded → Type 0
 Bounds before cs source words b = toldBound b ≡ toldBound (boundOf (state before) cs source (stepsOf words))
+
+-- and what it says
+abbrev pub BoundKeeps : Image → List Channel → ℕ → List ℕ → Bounded → Type 0
+BoundKeeps before cs source words b = Bounds before cs source words b × BoundSays before cs source (stepsOf words) b
 
 -- what it says of a wait report on the same image, list, source and words
 abbrev pub BoundWaits : Type 0
 BoundWaits =
     (m : Image) (cs : List Channel) (source : ℕ) (words : List ℕ) (b : Bounded) (w : Waited) (after : Image)
     → Bounds m cs source words b → Waits m cs source words w after → WaitKeeps b w (pending after cs source)
+
+-- the bound of Handlers, likewise
+abbrev pub HandlerBounds : Image → List Channel → ℕ → List ℕ → Bounded → Type 0
+HandlerBounds before cs source words b = toldBound b ≡ toldBound (handlerBoundOf (state before) cs source (stepsOf words))
+
+abbrev pub HandlerBoundKeeps : Image → List Channel → ℕ → List ℕ → Bounded → Type 0
+HandlerBoundKeeps before cs source words b = HandlerBounds before cs source words b × HandlerBoundSays before cs source (stepsOf words) b
+
+abbrev pub HandlerBoundWaits : Type 0
+HandlerBoundWaits =
+    (m : Image) (cs : List Channel) (source : ℕ) (words : List ℕ) (b : Bounded) (w : Waited) (after : Image)
+    → HandlerBounds m cs source words b → Waits m cs source words w after → WaitKeeps b w (pending after cs source)
 
 -- ---- calls one after another: each gets the image that the call before it left, and the same channel list
 
@@ -100,6 +128,12 @@ abbrev pub CallsDemand3 : Type 0
 CallsDemand3 =
     (m : Image) (cs : List Channel) (made : List Made) → AllDo m cs made
     → Demand3Of m cs (eventsOf m made) (stateAfter (state m) (eventsOf m made) .image)
+
+-- what Handlers says of them
+abbrev pub CallsHandlers : Type 0
+CallsHandlers =
+    (m : Image) (cs : List Channel) (made : List Made) → AllDo m cs made
+    → HandlersOf m cs (eventsOf m made) (stateAfter (state m) (eventsOf m made) .image)
 
 -- ---- the view
 

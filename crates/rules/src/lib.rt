@@ -200,8 +200,21 @@ pub enum Waited {
     },
 }
 
-// What is answered of demand 3's wait: refused with 1, 2 or 4; or the first of demand 3's premises that fails, one on the steps with the index of the
-// step; or the unmasked sources outranking ours that are pending at the start (H), their triggers in the list (E), and the bound H + E + 1.
+// What a bound over reads and writes rests on, in the order in which a change of it is answered: our pending bit; the mode; the current level; the top
+// level's enables; and each source's mask, DMA enable and level.
+pub enum Basis {
+    Pending,
+    Mode,
+    CurrentLevel,
+    TopLevel,
+    Mask,
+    DmaEnable,
+    Level,
+}
+
+// What is answered of demand 3's bound, and of that over reads and writes: refused with 1, 2 or 4; or the first of the premises that fails, one on the steps
+// with the index of the step (`Changed` of a write, in the second alone); or the unmasked sources outranking ours that are pending at the start (H), how often
+// the steps trigger such a source or raise its pending bit (E), and the bound H + E + 1.
 pub enum Bounded {
     Refused(Refusal),
     Nested,
@@ -212,6 +225,10 @@ pub enum Bounded {
     Masked,
     LevelNotAbove,
     OtherStep {
+        index: usize,
+    },
+    Changed {
+        basis: Basis,
         index: usize,
     },
     InterruptsDisabled {

@@ -13,13 +13,19 @@ use Rattle.rules.specs.declared.Channels.{Channels}
 use Rattle.rules.specs.Image.{Image, at, bitOf, has, EIPR, EIMR, EIPLR}
 use Rattle.rules.specs.Channels.{idcrByte, listOk, listOf}
 use Rattle.rules.specs.Sources.{sources, external, recordOf, IP, IM, pendingBit, pending, unmasked, dmaEnabled, externalLevel, level}
+use Rattle.rules.specs.Waiting.{pendingOf}
 use Rattle.rules.proofs.Channels as S
-use Rattle.channels.proofs.ItemLaws.{list-count}
+use Rattle.rules.proofs.Counting.{pendingOf-le}
+use Rattle.channels.proofs.ItemLaws.{list-count, count-short}
 
 -- the external channels, and the records that the list counts
 pub source-count : (all : Channels) {vs : List Val} → Is S.the-row all vs → listOk (listOf all) ≡ true → sources (listOf all) ≡ 8 + all .count
 unfolding sources
 source-count all good ok = omega (arith, list-count all good ok)
+
+-- no more are pending than there are, twenty at most
+pub few-pending : (all : Channels) {vs : List Val} → Is S.the-row all vs → listOk (listOf all) ≡ true → (m : Image) (among : ℕ → Bool) → pendingOf m (listOf all) among ≤ 20
+few-pending all good ok m among = omega (arith, pendingOf-le m (listOf all) among, source-count all good ok, count-short all good ok)
 
 module _ (m : Image) (cs : List Channel) (s : ℕ) where
   -- the definitions' bits, each as one of a register or one of IDCR

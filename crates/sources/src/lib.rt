@@ -16,7 +16,7 @@ ghost use Prim.Native.Nat.{_<_};
 ghost use lib.ListN.{length};
 ghost use Rattle.rules.specs.Image.{imageLength, at, bitOf, has};
 ghost use Rattle.rules.specs.Channels.{recordAt, idcrByte, listOk, listOf};
-ghost use Rattle.rules.specs.Sources.{sources, external, recordOf, pending, unmasked, level};
+ghost use Rattle.rules.specs.Sources.{sources, external, recordOf, pending, unmasked, dmaEnabled, level};
 ghost use Rattle.rules.specs.Runs.{oneIf};
 ghost use Rattle.rules.specs.Waiting.{outranks, rival, pendingOf};
 ghost use Rattle.rules.specs.Bounds.{anyDma};
@@ -55,6 +55,17 @@ pub fn is_unmasked(image: &[u8], all: Channels, source: usize) -> bool
     ensures { λ u. ⌜ u ≡ unmasked (now (image .entry)) (listOf all) source ⌝ }
 {
     source_bit(image, all, source, EIMR, IM)
+}
+
+// Whether it has DMA enabled: DM is 1; an external channel has none.
+pub fn is_dma_enabled(image: &[u8], all: Channels, source: usize) -> bool
+    requires { ⌜ (length (now image) ≡ imageLength) × (listOk (listOf all) ≡ true) × (source < sources (listOf all)) ⌝ }
+    ensures { λ d. ⌜ d ≡ dmaEnabled (now (image .entry)) (listOf all) source ⌝ }
+{
+    if source < EXTERNALS {
+        return false;
+    }
+    has_bit(idcr_of(image, all, source - EXTERNALS), DM)
 }
 
 // Its level, pending or not: an external channel's by EIPLR, a record's PRL.

@@ -1,10 +1,10 @@
-//! Demand 3's bound.
+//! The two bounds of a source's wait: demand 3's, and the handlers' with reads and writes in the list.
 
 use crate::run::count;
 use crate::{calls, sys, Channel, Refusal, Source};
 use std::fmt;
 
-/// What demand 3 promises of a source over a list of steps.
+/// What is promised of a source over a list of steps: by demand 3 (`bound`), or by the handlers' claim (`handler_bound`).
 #[derive(Clone, Copy, Debug, PartialEq, Eq, Hash)]
 pub enum Bound {
     /// All premises hold: the source is acknowledged by arbitration `bound` at the latest, if the list has that many,
@@ -12,7 +12,8 @@ pub enum Bound {
     Within {
         /// H: the unmasked sources outranking it that are pending at the start.
         outranking: u64,
-        /// E: the triggers of unmasked sources outranking it in the list.
+        /// E: the triggers of unmasked sources outranking it in the list; of a handlers' bound those up to its
+        /// acknowledgement, and the pending bits of such sources that writes raise.
         triggers: u64,
         /// H + E + 1.
         bound: u64,
@@ -21,7 +22,7 @@ pub enum Bound {
     Fails(Premise),
 }
 
-/// A premise of demand 3 that fails.
+/// A premise that fails.
 #[derive(Clone, Copy, Debug, PartialEq, Eq, Hash)]
 pub enum Premise {
     /// Nested mode (IAM = 1).
@@ -38,7 +39,7 @@ pub enum Premise {
     Masked,
     /// The source's level is not above the current one.
     LevelNotAbove,
-    /// A step that is no trigger, arbitration or return.
+    /// A step that is no trigger, arbitration or return; of a handlers' bound it is a reset.
     OtherStep {
         /// Its index, from 0.
         index: usize,
@@ -48,13 +49,71 @@ pub enum Premise {
         /// Its index, from 0.
         index: usize,
     },
+    /// Of a handlers' bound alone: a write that changed what the bound rests on.
+    Changed {
+        /// What it changed.
+        basis: Basis,
+        /// Its index, from 0.
+        index: usize,
+    },
+}
+
+/// What a handlers' bound rests on, beside the premises on the start; of several that a write changes, the first of these.
+#[derive(Clone, Copy, Debug, PartialEq, Eq, Hash)]
+pub enum Basis {
+    /// The source's pending bit, which was 1.
+    Pending,
+    /// The mode, IAM.
+    Mode,
+    /// The current level, CPL.
+    CurrentLevel,
+    /// The top level's enables, TLI and TLNM.
+    TopLevel,
+    /// Each source's mask.
+    Mask,
+    /// Each record's DMA enable.
+    DmaEnable,
+    /// Each source's level.
+    Level,
+}
+
+impl Basis {
+    /// That of the number in a flat answer.
+    fn answered(number: u64) -> Basis {
+        match number {
+            sys::CHANGED_PENDING => Basis::Pending,
+            sys::CHANGED_MODE => Basis::Mode,
+            sys::CHANGED_CURRENT_LEVEL => Basis::CurrentLevel,
+            sys::CHANGED_TOP_LEVEL => Basis::TopLevel,
+            sys::CHANGED_MASK => Basis::Mask,
+            sys::CHANGED_DMA_ENABLE => Basis::DmaEnable,
+            sys::CHANGED_LEVEL => Basis::Level,
+            number => calls::foreign("what a write changed", number),
+        }
+    }
+}
+
+impl fmt::Display for Basis {
+    fn fmt(&self, f: &mut fmt::Formatter<'_>) -> fmt::Result {
+        f.write_str(match self {
+            Basis::Pending => "the source's pending bit, erased unserved",
+            Basis::Mode => "the mode (IAM)",
+            Basis::CurrentLevel => "the current level (CPL)",
+            Basis::TopLevel => "the top level's enables (TLI or TLNM)",
+            Basis::Mask => "a source's mask",
+            Basis::DmaEnable => "a channel's DMA enable (DM)",
+            Basis::Level => "a source's level",
+        })
+    }
 }
 
 impl Premise {
     /// The index of the step that breaks the premise, where it is one of steps.
     pub const fn index(self) -> Option<usize> {
         match self {
-            Premise::OtherStep { index } | Premise::InterruptsDisabled { index } => Some(index),
+            Premise::OtherStep { index }
+            | Premise::InterruptsDisabled { index }
+            | Premise::Changed { index, .. } => Some(index),
             _ => None,
         }
     }
@@ -62,7 +121,7 @@ impl Premise {
 
 impl fmt::Display for Premise {
     fn fmt(&self, f: &mut fmt::Formatter<'_>) -> fmt::Result {
-        f.write_str(match self {
+        let words = match self {
             Premise::Nested => "nested mode (IAM = 1)",
             Premise::DmaEnabled => "a channel has DMA enabled (DM = 1)",
             Premise::TopLevelEnabled => "top level enabled (TLNM or TLI is 1)",
@@ -74,7 +133,9 @@ impl fmt::Display for Premise {
             Premise::InterruptsDisabled { .. } => {
                 "an arbitration with interrupts disabled (IEN = 0)"
             }
-        })
+            Premise::Changed { basis, .. } => return write!(f, "a write that changes {basis}"),
+        };
+        f.write_str(words)
     }
 }
 
@@ -101,7 +162,46 @@ pub fn bound(
     source: Source,
     words: &[u64],
 ) -> Result<Bound, Refusal> {
-    let flat = calls::bound(image, channels, source.0, words);
+    told(calls::bound(image, channels, source.0, words))
+}
+
+/// The same with reads and writes in the list, as a handler does them: by which arbitration of the list the source is
+/// acknowledged at the latest, or the first premise that fails of the steps up to its acknowledgement. A write may do
+/// all but change the mode, the current level, the top level's enables, a source's mask, level or DMA enable, and
+/// erase the source's own pending bit; the answer has what it changed. Never above `bound`'s where both answer one.
+/// Refused with 1, 2 or 4 as a wait report is.
+///
+/// ```
+/// use st9::{handler_bound, register, Basis, Bound, Premise, Source, Step};
+///
+/// let mut image = [0; st9::IMAGE_LENGTH];
+/// image[st9::place(0, register::CICR)] = 0x87; // the handler of INTB0 runs: IEN is 0
+/// image[st9::place(0, register::EIPR)] = 0x14; // INTB0 and INTC0 pending
+/// image[st9::place(0, register::EIMR)] = 0x14;
+/// image[st9::place(0, register::EIPLR)] = 0xE7; // INTB0 at level 2, INTC0 at level 4
+///
+/// let eipr = u32::from(register::EIPR);
+/// let handler = |kept| {
+///     let write = Step::Write { register: eipr, value: kept };
+///     [Step::Read { register: eipr }, write, Step::Return, Step::Arbitrate].map(Step::word)
+/// };
+/// let within = Bound::Within { outranking: 1, triggers: 0, bound: 2 };
+/// assert_eq!(handler_bound(&image, &[], Source::INTC0, &handler(0x10)), Ok(within));
+///
+/// let erased = Bound::Fails(Premise::Changed { basis: Basis::Pending, index: 1 });
+/// assert_eq!(handler_bound(&image, &[], Source::INTC0, &handler(0x00)), Ok(erased));
+/// ```
+pub fn handler_bound(
+    image: &[u8],
+    channels: &[Channel],
+    source: Source,
+    words: &[u64],
+) -> Result<Bound, Refusal> {
+    told(calls::handler_bound(image, channels, source.0, words))
+}
+
+/// Either bound, as it is answered.
+fn told(flat: sys::Answer) -> Result<Bound, Refusal> {
     let premise = match flat.kind {
         sys::REFUSED_CALL => return Err(Refusal::answered(flat.refusal)),
         sys::WITHIN => {
@@ -120,6 +220,9 @@ pub fn bound(
         sys::LEVEL_NOT_ABOVE => Premise::LevelNotAbove,
         sys::OTHER_STEP => Premise::OtherStep { index: count(flat.steps) },
         sys::INTERRUPTS_DISABLED => Premise::InterruptsDisabled { index: count(flat.steps) },
+        sys::CHANGED => {
+            Premise::Changed { basis: Basis::answered(flat.first), index: count(flat.steps) }
+        }
         kind => calls::foreign("the kind of a bound", kind),
     };
     Ok(Bound::Fails(premise))

@@ -57,6 +57,27 @@ pub(crate) fn bound(image: &[u8], channels: &[Channel], source: u32, words: &[u6
     }
 }
 
+pub(crate) fn handler_bound(
+    image: &[u8],
+    channels: &[Channel],
+    source: u32,
+    words: &[u64],
+) -> sys::Answer {
+    let (records, length) = bytes(channels);
+    // SAFETY: as in `run`; the image is only read.
+    unsafe {
+        sys::st9_handler_bound(
+            image.as_ptr(),
+            image.len(),
+            records,
+            length,
+            source,
+            words.as_ptr(),
+            words.len(),
+        )
+    }
+}
+
 pub(crate) fn view_number(image: &[u8], page: u32) -> u64 {
     // SAFETY: pointer and length are of one live slice, which is only read.
     unsafe { sys::st9_view_number(image.as_ptr(), image.len(), page) }

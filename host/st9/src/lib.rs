@@ -36,7 +36,7 @@ mod step;
 pub mod sys;
 
 pub use answer::{step, Answer, Effect};
-pub use bound::{bound, Bound, Premise};
+pub use bound::{bound, handler_bound, Basis, Bound, Premise};
 pub use channel::{Channel, Direction};
 pub use refusal::Refusal;
 pub use run::{run, wait, Done, RunError, Wait, WaitError};

@@ -12,7 +12,7 @@ pub struct Answer {
     pub refusal: u64,
     /// The steps done, or the index of a step.
     pub steps: u64,
-    /// `byte`, `lost`, `maskable`, `source`, `arbitrations` or `outranking` of `include/st9.h`.
+    /// `byte`, `lost`, `maskable`, `source`, `arbitrations`, `outranking` or `changed` of `include/st9.h`.
     pub first: u64,
     /// `tlip`, `level`, `ended` or `triggers`.
     pub second: u64,
@@ -64,12 +64,29 @@ pub const NOT_PENDING: u64 = 19;
 pub const MASKED: u64 = 20;
 /// A bound's premise that fails: the source's level is not above the current one.
 pub const LEVEL_NOT_ABOVE: u64 = 21;
-/// A bound's premise that fails: the step at index `steps` is no trigger, arbitration or return.
+/// A bound's premise that fails: the step at index `steps` is no trigger, arbitration or return; of a handlers' bound it is a reset.
 pub const OTHER_STEP: u64 = 22;
 /// A bound's premise that fails: the arbitration at index `steps` finds IEN = 0.
 pub const INTERRUPTS_DISABLED: u64 = 23;
 /// A bound: H, E and H + E + 1 in `first`, `second` and `third`.
 pub const WITHIN: u64 = 24;
+/// A handlers' bound's premise that fails: in `first` what the write at index `steps` changed.
+pub const CHANGED: u64 = 25;
+
+/// A write that erased the source's pending bit.
+pub const CHANGED_PENDING: u64 = 1;
+/// A write that changed the mode, IAM.
+pub const CHANGED_MODE: u64 = 2;
+/// A write that changed the current level, CPL.
+pub const CHANGED_CURRENT_LEVEL: u64 = 3;
+/// A write that changed one of the top level's enables, TLI or TLNM.
+pub const CHANGED_TOP_LEVEL: u64 = 4;
+/// A write that changed a source's mask.
+pub const CHANGED_MASK: u64 = 5;
+/// A write that changed a record's DMA enable.
+pub const CHANGED_DMA_ENABLE: u64 = 6;
+/// A write that changed a source's level.
+pub const CHANGED_LEVEL: u64 = 7;
 
 /// A trigger that did not select the bit.
 pub const NOT_SELECTED: u64 = 0;
@@ -125,6 +142,20 @@ extern "C" {
     /// # Safety
     /// As for `st9_step`.
     pub fn st9_bound(
+        image: *const u8,
+        image_length: usize,
+        channels: *const u8,
+        channels_length: usize,
+        source: u32,
+        words: *const u64,
+        word_count: usize,
+    ) -> Answer;
+
+    /// The bound with reads and writes in the list. The image is only read.
+    ///
+    /// # Safety
+    /// As for `st9_step`.
+    pub fn st9_handler_bound(
         image: *const u8,
         image_length: usize,
         channels: *const u8,

@@ -1,94 +1,26 @@
--- The code makes the definition's tests in the same order; where all pass, the source is looked at.
-use mathlib.Core.Path.{_≡_, sym, ap₂, _∙_}
-use mathlib.Core.Bool.{Bool, false, _||_}
+-- The premises on the start decide: where they hold the steps are followed.
+use mathlib.Core.Path.{sym, _∙_}
 use borrow.Author.Needs.{needs}
-use denote.Ref.{now}
-use Rattle.rules.specs.Image.{has, IAM}
-use Rattle.rules.specs.Channels.{listOf}
-use Rattle.rules.specs.Bounds.{anyDma, topLevelEnabled, calmElse}
 use Rattle.bounds.proofs.bound_accepted.Statement.{statement}
 use Rattle.bounds.proofs.bound_accepted.Tie as tie
 
--- ---- what the tests say where they are passed
+start-premises-requires : tie.Need-start-premises-requires
+start-premises-requires c κs = search needs
 
-concurrent : (c : tie.Else1) → let a = c .before .before .before .before .before .args in has (now (a .image)) IAM ≡ false
-concurrent c = sym (c .before .has-bit .ensures) ∙ c .if1 .left
+enum-told : tie.Need-enum-told
+enum-told c = search needs
 
-no-dma : (c : tie.Else2) → let a = c .before .before .before .before .before .before .before .args in anyDma (now (a .image)) (listOf (a .all)) ≡ false
-no-dma c = sym (c .before .any-dma .ensures) ∙ c .if2 .left
+followed-requires : tie.Need-followed-requires
+followed-requires c κs = search needs
 
--- TLNM or TLI, as the code has it
-top-enabled : (c : tie.After-has-bit3) → let a = c .before .before .before .before .before .before .before .before .before .before .args in
-    (c .before .has-bit2 .result || c .has-bit3 .result) ≡ topLevelEnabled (now (a .image))
-top-enabled c = ap₂ (λ (x y : Bool). x || y) (c .before .has-bit2 .ensures) (c .has-bit3 .ensures)
-
-shared-slice-read-cicr : tie.Need-shared-slice-read-cicr
-shared-slice-read-cicr c = search needs
-
-has-bit-requires : tie.Need-has-bit-requires
-has-bit-requires c κs = search needs
+enum-known-b : tie.Need-enum-known-b
+enum-known-b c = search needs
 
 returns : tie.Need-returns
-unfolding calmElse
-returns c = rw (sym (c .before .has-bit .ensures) ∙ c .if1 .taken)
-
-any-dma-requires : tie.Need-any-dma-requires
-any-dma-requires c κs = search needs
+returns c = let d = c .before in c .followed .ensures ∙ sym (d .before .before .start-premises .ensures _ ∙ rw (d .enum-told .given .1))
 
 returns-2 : tie.Need-returns-2
-unfolding calmElse
-returns-2 c = rw (concurrent (c .before .before), sym (c .before .any-dma .ensures) ∙ c .if2 .taken)
-
-shared-slice-read-has-bit : tie.Need-shared-slice-read-has-bit
-shared-slice-read-has-bit c = search needs
-
-has-bit-requires-2 : tie.Need-has-bit-requires-2
-has-bit-requires-2 c κs = search needs
-
-has-bit-requires-3 : tie.Need-has-bit-requires-3
-has-bit-requires-3 c κs = search needs
-
-returns-3 : tie.Need-returns-3
-unfolding calmElse
-returns-3 c =
-    let d = c .before .before .before .before in
-    rw (concurrent (d .before .before), no-dma d, sym (top-enabled (c .before)) ∙ c .if3 .taken)
-
-in-service-requires : tie.Need-in-service-requires
-in-service-requires c κs = search needs
-
-returns-4 : tie.Need-returns-4
-unfolding calmElse
-returns-4 c =
-    let t = c .before .before in
-    let d = t .before .before .before .before in
-    rw (concurrent (d .before .before), no-dma d, sym (top-enabled (t .before)) ∙ t .if3 .left, sym (c .before .in-service .ensures) ∙ c .if4 .taken)
-
-source-bound-requires : tie.Need-source-bound-requires
-source-bound-requires c κs = search needs
-
-returns-5 : tie.Need-returns-5
-unfolding calmElse
-returns-5 c =
-    let m = c .before in
-    let t = m .before .before in
-    let d = t .before .before .before .before in
-    rw (concurrent (d .before .before), no-dma d, sym (top-enabled (t .before)) ∙ t .if3 .left, sym (m .before .in-service .ensures) ∙ m .if4 .left, c .source-bound .ensures)
+returns-2 c = sym (c .before .before .before .start-premises .ensures _ ∙ rw (c .before .b .given .1))
 
 pub bound-accepted-spec : {M : Type 1} → statement M
-bound-accepted-spec =
-    tie.close
-    (tie.spec
-    shared-slice-read-cicr
-    has-bit-requires
-    returns
-    any-dma-requires
-    returns-2
-    shared-slice-read-has-bit
-    has-bit-requires-2
-    has-bit-requires-3
-    returns-3
-    in-service-requires
-    returns-4
-    source-bound-requires
-    returns-5)
+bound-accepted-spec = tie.close (tie.spec start-premises-requires enum-told followed-requires enum-known-b returns returns-2)

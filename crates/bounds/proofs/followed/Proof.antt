@@ -12,10 +12,9 @@ use Rattle.rules.specs.Channels.{listOf}
 use Rattle.rules.specs.Steps.{stepsOf}
 use Rattle.rules.specs.Runs.{history, oneIf}
 use Rattle.rules.specs.Waiting.{rival, H}
-use Rattle.rules.proofs.Counting.{one-le, pendingOf-le}
-use Rattle.channels.proofs.ItemLaws.{count-short}
-use Rattle.sources.proofs.SourceReads.{source-count}
-use Rattle.bounds.specs.Followed.{noSource, rivalTriggered, followedFrom}
+use Rattle.rules.proofs.Counting.{one-le}
+use Rattle.sources.proofs.SourceReads.{few-pending}
+use Rattle.bounds.specs.Followed.{rivalTriggered, followedFrom}
 use Rattle.dispatch.proofs.NextSteps.{next-word, no-word}
 use Rattle.bounds.proofs.FollowedSteps.{triggers-told, followed-start, followed-end, followed-other, followed-on}
 use Rattle.bounds.proofs.followed.Statement.{statement}
@@ -38,16 +37,10 @@ counted-one c =
     omega (arith, c .rival-trigger .ensures, one-le (rivalTriggered (now (s .args .image)) (listOf (s .args .all)) (s .args .ours) (d .before .before .before .decode .result) (d .act .result)))
 
 -- no more than there are sources
-few-rivals : (c : tie.After-pending-rivals Inv-loop μ-loop) → c .pending-rivals .result ≤ noSource
+few-rivals : (c : tie.After-pending-rivals Inv-loop μ-loop) → c .pending-rivals .result ≤ 20
 few-rivals c =
     let s = c .before .before .before .before .before .before .before in
-    omega (
-      arith,
-      c .pending-rivals .ensures,
-      pendingOf-le (now (s .args .image)) (listOf (s .args .all)) (rival (now (s .args .image)) (listOf (s .args .all)) (s .args .ours)),
-      source-count _ (s .good .1 .0) (s .pre .1),
-      count-short _ (s .good .1 .0) (s .pre .1),
-    )
+    omega (arith, c .pending-rivals .ensures, few-pending _ (s .good .1 .0) (s .pre .1) (now (s .args .image)) (rival (now (s .args .image)) (listOf (s .args .all)) (s .args .ours)))
 
 copy-of-requires : tie.Need-copy-of-requires Inv-loop μ-loop
 copy-of-requires c κs = search needs

@@ -4,7 +4,6 @@ use mathlib.Core.Bool.{Bool, false}
 use mathlib.Core.List.{List}
 use Prim.Native.Nat.{ℕ, _+_, _-_, _≤_}
 use native.Mathlib.Omega.{arith}
-use native.Mathlib.Numerals.{add-one}
 use borrow.Author.Needs.{needs}
 use Rattle.bits.specs.Bits.{bit}
 use Rattle.rules.specs.declared.Channel.{Channel}
@@ -12,7 +11,7 @@ use Rattle.rules.specs.Image.{Image, at}
 use Rattle.rules.specs.Channels.{recordAt, idcrByte, listOf}
 use Rattle.rules.specs.Sources.{sources, dmaEnabled}
 use Rattle.rules.specs.Bounds.{anyBelow}
-use Rattle.rules.proofs.AnyBelow.{any-one, any-none}
+use Rattle.rules.proofs.AnyBelow.{any-one, any-none, none-more}
 use Rattle.rules.proofs.PendingLaws.{record-of}
 use Rattle.sources.proofs.SourceReads.{source-count, external-reads, record-reads}
 use Rattle.sources.proofs.any_dma.Statement.{statement}
@@ -23,11 +22,6 @@ Inv-loop image all k₀ k = (k ≤ all .count) × (anyBelow (8 + k) (dmaEnabled 
 
 abbrev μ-loop : tie.MeasureT-loop
 μ-loop image all k₀ k = all .count - k
-
--- none below n, and not n
-none-more : (p : ℕ → Bool) (n : ℕ) → anyBelow n p ≡ false → p n ≡ false → anyBelow (n + 1) p ≡ false
-unfolding anyBelow
-none-more p n h e = rw (add-one n, e) h
 
 -- the bit that the code looks at says whether source 8 + k has DMA enabled
 looked : (m : Image) (cs : List Channel) (k : ℕ) {idcr : ℕ} {r : Bool} → idcr ≡ at m (idcrByte (recordAt cs k)) → r ≡ bit 4 idcr → dmaEnabled m cs (8 + k) ≡ r

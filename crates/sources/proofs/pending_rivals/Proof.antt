@@ -1,15 +1,13 @@
 -- The invariant: n counts the pending rivals below k, so it is at most k.
 use mathlib.Core.Path.{_≡_, refl}
-use mathlib.Core.Bool.{Bool, _&&_}
-use Prim.Native.Nat.{ℕ, _+_, _-_, _≤_}
+use mathlib.Core.Bool.{_&&_}
+use Prim.Native.Nat.{_+_, _-_, _≤_}
 use native.Mathlib.Omega.{arith}
-use native.Mathlib.Numerals.{add-one}
 use borrow.Author.Needs.{needs}
 use Rattle.rules.specs.Channels.{mostRecords, listOf}
 use Rattle.rules.specs.Sources.{sources, pending}
-use Rattle.rules.specs.Runs.{oneIf}
 use Rattle.rules.specs.Waiting.{rival, countBelow, pendingOf}
-use Rattle.rules.proofs.Counting.{one-le}
+use Rattle.rules.proofs.Counting.{count-more}
 use Rattle.channels.proofs.ItemLaws.{count-short}
 use Rattle.sources.proofs.SourceReads.{source-count}
 use Rattle.sources.proofs.pending_rivals.Statement.{statement}
@@ -22,11 +20,6 @@ Inv-loop image all ours n₀ k₀ n k =
 
 abbrev μ-loop : tie.MeasureT-loop
 μ-loop image all ours n₀ k₀ n k = 8 + all .count - k
-
--- one number further: at most one more, and counted
-count-more : (p : ℕ → Bool) (k n x : ℕ) → n ≡ countBelow k p → x ≡ oneIf (p k) → (x ≤ 1) × (n + x ≡ countBelow (k + 1) p)
-unfolding countBelow
-count-more p k n x e d = (omega (arith, one-le (p k)), rw (add-one k) (omega arith))
 
 loop-holds : tie.Need-loop-holds Inv-loop μ-loop
 unfolding countBelow

@@ -1,7 +1,7 @@
 -- Each arm is the definition's.
 use borrow.Author.Needs.{needs}
-use Rattle.machine.proofs.runs.acknowledged.Statement.{statement}
-use Rattle.machine.proofs.runs.acknowledged.Tie as tie
+use Rattle.dispatch.proofs.acknowledged.Statement.{statement}
+use Rattle.dispatch.proofs.acknowledged.Tie as tie
 
 enum-told : tie.Need-enum-told
 enum-told c = search needs

@@ -1,4 +1,4 @@
--- The code makes the definition's tests in the same order; where all hold, the steps are followed.
+-- The code makes the definition's tests in the same order.
 use mathlib.Core.Path.{_≡_, sym, _∙_}
 use mathlib.Core.Bool.{true}
 use borrow.Author.Needs.{needs}
@@ -7,15 +7,15 @@ use denote.Ref.{now}
 use Rattle.rules.specs.Channels.{listOf}
 use Rattle.rules.specs.Sources.{pending, unmasked}
 use Rattle.rules.specs.Bounds.{sourceElse}
-use Rattle.bounds.proofs.source_bound.Statement.{statement}
-use Rattle.bounds.proofs.source_bound.Tie as tie
+use Rattle.bounds.proofs.source_premises.Statement.{statement}
+use Rattle.bounds.proofs.source_premises.Tie as tie
 
 -- ---- what the tests say where they are passed
 
-waits : (c : tie.Else1) → let a = c .before .before .before .before .args in pending (now (a .image)) (listOf (a .all)) (a .ours) ≡ true
+waits : (c : tie.Else1) → let a = c .before .before .before .args in pending (now (a .image)) (listOf (a .all)) (a .ours) ≡ true
 waits c = sym (c .before .is-pending .ensures) ∙ not-false _ (c .if1 .left)
 
-is-open : (c : tie.Else2) → let a = c .before .before .before .before .before .before .args in unmasked (now (a .image)) (listOf (a .all)) (a .ours) ≡ true
+is-open : (c : tie.Else2) → let a = c .before .before .before .before .before .args in unmasked (now (a .image)) (listOf (a .all)) (a .ours) ≡ true
 is-open c = sym (c .before .is-unmasked .ensures) ∙ not-false _ (c .if2 .left)
 
 is-pending-requires : tie.Need-is-pending-requires
@@ -23,14 +23,14 @@ is-pending-requires c κs = search needs
 
 returns : tie.Need-returns
 unfolding sourceElse
-returns c = rw (sym (c .before .is-pending .ensures) ∙ not-true _ (c .if1 .taken))
+returns c b = rw (sym (c .before .is-pending .ensures) ∙ not-true _ (c .if1 .taken))
 
 is-unmasked-requires : tie.Need-is-unmasked-requires
 is-unmasked-requires c κs = search needs
 
 returns-2 : tie.Need-returns-2
 unfolding sourceElse
-returns-2 c = rw (waits (c .before .before), sym (c .before .is-unmasked .ensures) ∙ not-true _ (c .if2 .taken))
+returns-2 c b = rw (waits (c .before .before), sym (c .before .is-unmasked .ensures) ∙ not-true _ (c .if2 .taken))
 
 level-of-requires : tie.Need-level-of-requires
 level-of-requires c κs = search needs
@@ -38,23 +38,20 @@ level-of-requires c κs = search needs
 shared-slice-read-if3 : tie.Need-shared-slice-read-if3
 shared-slice-read-if3 c = search needs
 
-followed-requires : tie.Need-followed-requires
-followed-requires c κs = search needs
-
 returns-3 : tie.Need-returns-3
 unfolding sourceElse
-returns-3 c =
-    let l = c .before .before .before in
-    rw (waits (l .before .before .before), is-open (l .before), ← l .level-of .ensures, lt-ltb _ _ (c .before .if3 .taken), c .followed .ensures)
+returns-3 c b =
+    let l = c .before .before in
+    rw (waits (l .before .before .before), is-open (l .before), ← l .level-of .ensures, lt-ltb _ _ (c .if3 .taken))
 
 returns-4 : tie.Need-returns-4
 unfolding sourceElse
-returns-4 c =
+returns-4 c b =
     let l = c .before .before in
     rw (waits (l .before .before .before), is-open (l .before), ← l .level-of .ensures, le-ltb _ _ (c .if3 .left))
 
-pub source-bound-spec : {M : Type 1} → statement M
-source-bound-spec =
+pub source-premises-spec : {M : Type 1} → statement M
+source-premises-spec =
     tie.close
     (tie.spec
     is-pending-requires
@@ -63,6 +60,5 @@ source-bound-spec =
     returns-2
     level-of-requires
     shared-slice-read-if3
-    followed-requires
     returns-3
     returns-4)

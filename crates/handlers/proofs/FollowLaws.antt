@@ -1,0 +1,176 @@
+-- What a step that is followed breaks and counts, and what the next step does to those that the bound follows. Assumes nothing.
+use mathlib.Core.Path.{_≡_, refl, sym, ap, _∙_, subst}
+use mathlib.Core.Bool.{Bool, true, false, false≢true, cond, not, _&&_, and-false}
+use mathlib.Core.List.{List, []}
+use mathlib.Core.Option.{Option, none, some}
+use Prim.Native.Nat.{ℕ, _+_, _≤_}
+use native.Mathlib.Nat.{add-zero, zero-add, add-assoc}
+use native.Mathlib.Omega.{arith}
+use Rattle.rules.specs.declared.Channel.{Channel}
+use Rattle.rules.specs.declared.Step.{Step}
+use Rattle.rules.specs.declared.Step.the-variants as step
+use Rattle.rules.specs.declared.Answer.{Answer}
+use Rattle.rules.specs.declared.Bounded.{Bounded}
+use Rattle.rules.specs.declared.Bounded.the-variants as bounded
+use Rattle.rules.specs.Image.{Image, State, state, has, IEN}
+use Rattle.rules.specs.Channels.{mostRecords, listOk}
+use Rattle.rules.specs.Outcomes.{Outcome, outcome, isRefused}
+use Rattle.rules.specs.Registers.{writeOf}
+use Rattle.rules.specs.Steps.{actOf}
+use Rattle.rules.specs.Runs.{Event, history, until, oneIf, counted, isArbitration, eventAcknowledges}
+use Rattle.rules.specs.Waiting.{rival, H, selectedBy, triggers, triggersOf}
+use Rattle.rules.specs.Handlers.{isWrite, raised, raisedBy, raisedOf, upTo}
+use Rattle.rules.specs.HandlerBounds.{changes, bases, firstChanged, brokenStep, brokenBy, orLater, firstBroken, brokenElse, handlerBoundIn}
+use Rattle.rules.proofs.Bools.{impossible}
+use Rattle.rules.proofs.Counting.{one-le}
+use Rattle.dispatch.proofs.NextSteps.{Next, eventOf, history-next}
+use Rattle.bounds.specs.Followed.{rivalTriggered}
+use Rattle.bounds.proofs.FollowedSteps.{triggers-told}
+use Rattle.handlers.specs.declared.Broken.{Broken}
+use Rattle.handlers.specs.declared.Broken.the-variants as breaks
+use Rattle.handlers.specs.declared.Seen.{Seen}
+use Rattle.handlers.specs.Handled.{broken, mayDo, brokenCall, eventIn, more, Follows, withinOf, followedFrom}
+use Rattle.handlers.proofs.RaisedLaws.{raised-few}
+
+-- ---- a write, and a step that is none
+
+-- a write is no arbitration, and no trigger
+write-apart : (x : Step) → isWrite x ≡ true → (isArbitration x ≡ false) × ((m : Image) → selectedBy m x ≡ none)
+write-apart (step.Read r) w = absurd (false≢true w)
+write-apart (step.Write r v) w = (refl, λ m. refl)
+write-apart (step.Trigger t) w = absurd (false≢true w)
+write-apart step.Arbitrate w = absurd (false≢true w)
+write-apart step.Return w = absurd (false≢true w)
+write-apart step.Reset w = absurd (false≢true w)
+write-apart step.Unknown w = absurd (false≢true w)
+
+module _ (cs : List Channel) (s : ℕ) (m m' : Image) (i : ℕ) where
+  write-breaks : (x : Step) → isWrite x ≡ true → brokenStep cs s m x m' i ≡ firstChanged (changes cs s m m') bases i
+  unfolding brokenStep
+  write-breaks (step.Read r) w = absurd (false≢true w)
+  write-breaks (step.Write r v) w = refl
+  write-breaks (step.Trigger t) w = absurd (false≢true w)
+  write-breaks step.Arbitrate w = absurd (false≢true w)
+  write-breaks step.Return w = absurd (false≢true w)
+  write-breaks step.Reset w = absurd (false≢true w)
+  write-breaks step.Unknown w = absurd (false≢true w)
+
+  call-breaks : (x : Step) → isWrite x ≡ false → broken (brokenStep cs s m x m' i) ≡ cond (mayDo x) breaks.Nothing (breaks.By (bounded.OtherStep i))
+  unfolding brokenStep
+  call-breaks (step.Read r) w = refl
+  call-breaks (step.Write r v) w = absurd (false≢true (sym w))
+  call-breaks (step.Trigger t) w = refl
+  call-breaks step.Arbitrate w = refl
+  call-breaks step.Return w = refl
+  call-breaks step.Reset w = refl
+  call-breaks step.Unknown w = refl
+
+-- ---- a step that is followed
+
+module _ (start before after : Image) (cs : List Channel) (s : ℕ) (x : Step) (i : ℕ) (a : Answer) (did : outcome a (state after) ≡ actOf (state before) cs x) where
+  abbrev seen : Broken → ℕ → Seen
+  seen b n = record { answer = a; broken = b; more = n }
+
+  -- a write that was done
+  pub follows-write : isWrite x ≡ true → isRefused a ≡ false → (b : Broken) (n : ℕ) → b ≡ broken (firstChanged (changes cs s before after) bases i)
+      → n ≡ raised cs (rival start cs s) before after → Follows start before cs s x i (seen b n) after
+  unfolding brokenBy
+  follows-write w r b n p q =
+      record {
+        did = did;
+        breaks = rw (write-apart x w .0, r, write-breaks cs s before after i x w) p;
+        counts = rw (r, write-apart x w .1 before, w) (q ∙ sym (zero-add (raised cs (rival start cs s) before after)));
+      }
+
+  -- one that was refused
+  pub follows-refused : isWrite x ≡ true → isRefused a ≡ true → Follows start before cs s x i (seen breaks.Nothing 0) after
+  unfolding brokenBy
+  follows-refused w r = record { did = did; breaks = rw (write-apart x w .0, r); counts = rw (r, w) }
+
+  -- any other step
+  pub follows-call : listOk cs ≡ true → isWrite x ≡ false → (d : Bool) (b : Broken) (n : ℕ) → d ≡ (isArbitration x && not (has before IEN)) → b ≡ brokenCall x a d i
+      → n ≡ oneIf (rivalTriggered start cs s x a) → Follows start before cs s x i (seen b n) after
+  unfolding brokenBy
+  follows-call ok w d b n e p q =
+      record {
+        did = did;
+        breaks = p ∙ rw (← e) (go d (isRefused a));
+        counts = rw w (q ∙ ap oneIf (sym (triggers-told before cs ok (rival start cs s) x a (state after) did)) ∙ sym (add-zero _));
+      }
+    where
+      go : (d r : Bool) → cond d (breaks.By (bounded.InterruptsDisabled i)) (cond r breaks.Nothing (cond (mayDo x) breaks.Nothing (breaks.By (bounded.OtherStep i))))
+          ≡ broken (cond d (some (bounded.InterruptsDisabled i)) (cond r none (brokenStep cs s before x after i)))
+      go true r = refl
+      go false true = refl
+      go false false = sym (call-breaks cs s before after i x w)
+
+-- it counts twelve at most
+pub follows-few : (start before after : Image) (cs : List Channel) (s : ℕ) (x : Step) (i : ℕ) (f : Seen) → listOk cs ≡ true
+    → Follows start before cs s x i f after → f .more ≤ mostRecords
+unfolding actOf
+follows-few start before after cs s x i f ok q = omega (arith, q .counts, few x (q .did))
+  where
+    among : ℕ → Bool
+    among = rival start cs s
+
+    at-most-one : (x : Step) → isWrite x ≡ false → more cs among (eventIn before x (f .answer) after) ≤ mostRecords
+    at-most-one x w = rw w (omega (arith, one-le (triggers among (eventIn before x (f .answer) after))))
+
+    written : (r v : ℕ) (refused : Bool) → oneIf (not refused && false) + cond (true && not refused) (raised cs among before (writeOf before cs r v .image)) 0 ≤ mostRecords
+    written r v true = omega arith
+    written r v false = omega (arith, raised-few before cs ok among r v)
+
+    few : (x : Step) → outcome (f .answer) (state after) ≡ actOf (state before) cs x → more cs among (eventIn before x (f .answer) after) ≤ mostRecords
+    few (step.Read r) e = at-most-one (step.Read r) refl
+    few (step.Write r v) e =
+        let same : after ≡ writeOf before cs r v .image = ap (λ (o : Outcome). o .state .image) e in
+        rw same (written r v (isRefused (f .answer)))
+    few (step.Trigger t) e = at-most-one (step.Trigger t) refl
+    few step.Arbitrate e = at-most-one step.Arbitrate refl
+    few step.Return e = at-most-one step.Return refl
+    few step.Reset e = at-most-one step.Reset refl
+    few step.Unknown e = at-most-one step.Unknown refl
+
+-- ---- the loop
+
+-- what the code has of what a step breaks, back
+pub broken-some : (o : Option Bounded) (b : Bounded) → broken o ≡ breaks.By b → o ≡ some b
+broken-some none b e = impossible (cc)
+broken-some (some q) b e = let same : q ≡ b = cc in ap some same
+
+pub broken-none : (o : Option Bounded) → broken o ≡ breaks.Nothing → o ≡ none
+broken-none none e = refl
+broken-none (some q) e = impossible (cc)
+
+-- before the first step nothing is counted
+pub followed-start : (m : Image) (cs : List Channel) (s : ℕ) (es : List Event) → handlerBoundIn m cs s es ≡ followedFrom cs s (rival m cs s) (H m cs s) 0 0 es
+unfolding handlerBoundIn followedFrom
+followed-start m cs s es = rw zero-add
+
+module _ (cs : List Channel) (source : ℕ) (among : ℕ → Bool) (h e : ℕ) where
+  -- after the last step: the bound
+  pub followed-end : (s : State) (n : ℕ) {ys : List Step} → ys ≡ [] → followedFrom cs source among h n e (upTo source (history s cs ys)) ≡ bounded.Within h e (h + e + 1)
+  unfolding followedFrom history until firstBroken counted raisedOf
+  followed-end s n q = rw (q, add-zero)
+
+  module _ {s t : State} {ys xs : List Step} {x : Step} {a : Answer} (next : Next s t cs ys xs x a) (n : ℕ) where
+    abbrev event : Event
+    event = eventOf s x a t
+
+    -- a step that breaks a premise is answered at once
+    pub followed-broken : (b : Bounded) → brokenBy cs source event n ≡ some b → followedFrom cs source among h n e (upTo source (history s cs ys)) ≡ b
+    unfolding followedFrom until firstBroken
+    followed-broken b p = rw (history-next next, p)
+
+    module _ (unbroken : brokenBy cs source event n ≡ none) where
+      -- else what it triggers and raises is counted, and it is the last where it acknowledges ours
+      pub followed-last : eventAcknowledges source event ≡ true
+          → followedFrom cs source among h n e (upTo source (history s cs ys)) ≡ bounded.Within h (e + more cs among event) (h + (e + more cs among event) + 1)
+      unfolding followedFrom until firstBroken counted raisedOf
+      followed-last k = rw (history-next next, k, unbroken) (ap (λ (n : ℕ). bounded.Within h n (h + n + 1)) (omega arith))
+
+      pub followed-on : eventAcknowledges source event ≡ false
+          → followedFrom cs source among h n e (upTo source (history s cs ys))
+          ≡ followedFrom cs source among h (n + 1) (e + more cs among event) (upTo source (history t cs xs))
+      unfolding followedFrom until firstBroken counted raisedOf
+      followed-on k = rw (history-next next, k, unbroken) (ap (brokenElse (firstBroken cs source (n + 1) (upTo source (history t cs xs))) h) (omega arith))

@@ -1,0 +1,50 @@
+-- The code makes the definition's tests in the same order.
+use mathlib.Core.Path.{_≡_, sym, _∙_}
+use mathlib.Core.Bool.{false}
+use denote.Ref.{now}
+use Rattle.rules.specs.Channels.{listOf}
+use Rattle.rules.specs.Sources.{pending}
+use borrow.Author.Needs.{needs}
+use Rattle.handlers.proofs.changes.raised_rival.Statement.{statement}
+use Rattle.handlers.proofs.changes.raised_rival.Tie as tie
+
+-- it was not pending where the first test is passed
+not-yet : (c : tie.Else1) → let a = c .before .before .before .before .before .args in pending (now (a .before)) (listOf (a .all)) (a .k) ≡ false
+not-yet c = sym (c .before .is-pending .ensures) ∙ c .if1 .left
+
+is-pending-requires : tie.Need-is-pending-requires
+is-pending-requires c κs = search needs
+
+returns : tie.Need-returns
+returns c = rw (sym (c .before .is-pending .ensures) ∙ c .if1 .taken)
+
+is-pending-requires-2 : tie.Need-is-pending-requires-2
+is-pending-requires-2 c κs = search needs
+
+is-rival-requires : tie.Need-is-rival-requires
+is-rival-requires c κs = search needs
+
+returns-2 : tie.Need-returns-2
+returns-2 c =
+    let d = c .before .before in
+    rw (not-yet (d .before .before), sym (d .before .is-pending2 .ensures) ∙ d .if2 .taken, sym (c .before .is-rival .ensures) ∙ c .if3 .taken)
+
+returns-3 : tie.Need-returns-3
+returns-3 c =
+    let d = c .before .before in
+    rw (not-yet (d .before .before), sym (d .before .is-pending2 .ensures) ∙ d .if2 .taken, sym (c .before .is-rival .ensures) ∙ c .if3 .left)
+
+returns-4 : tie.Need-returns-4
+returns-4 c = rw (not-yet (c .before .before), sym (c .before .is-pending2 .ensures) ∙ c .if2 .left)
+
+pub raised-rival-spec : {M : Type 1} → statement M
+raised-rival-spec =
+    tie.close
+    (tie.spec
+    is-pending-requires
+    returns
+    is-pending-requires-2
+    is-rival-requires
+    returns-2
+    returns-3
+    returns-4)

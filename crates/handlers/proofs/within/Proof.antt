@@ -1,0 +1,31 @@
+-- H is no more than there are sources, so the sum is a number of the machine's.
+use Prim.Native.Nat.{_≤_}
+use native.Mathlib.Omega.{arith}
+use denote.Ref.{now}
+use Rattle.rules.specs.Channels.{listOf}
+use Rattle.rules.specs.Waiting.{rival}
+use Rattle.sources.proofs.SourceReads.{few-pending}
+use borrow.Author.Needs.{needs}
+use Rattle.handlers.proofs.within.Statement.{statement}
+use Rattle.handlers.proofs.within.Tie as tie
+
+-- no more than there are sources
+few : (c : tie.After-pending-rivals) → c .pending-rivals .result ≤ 20
+few c =
+    let s = c .before .before in
+    omega (arith, c .pending-rivals .ensures, few-pending _ (s .good .1 .0) (s .pre .1) (now (s .args .image)) (rival (now (s .args .image)) (listOf (s .args .all)) (s .args .ours)))
+
+pending-rivals-requires : tie.Need-pending-rivals-requires
+pending-rivals-requires c κs = search needs
+
+add-t6 : tie.Need-add-t6
+add-t6 c = omega (arith, few c)
+
+add-t7 : tie.Need-add-t7
+add-t7 c = omega (arith, few c)
+
+returns : tie.Need-returns
+returns c = rw (c .pending-rivals .ensures)
+
+pub within-spec : {M : Type 1} → statement M
+within-spec = tie.close (tie.spec pending-rivals-requires add-t6 add-t7 returns)

@@ -1,0 +1,86 @@
+-- Names for the private functions of the bound over reads and writes and for its loop: what a step breaks, and the steps followed so far. Assumes nothing.
+use mathlib.Core.Path.{_≡_}
+use mathlib.Core.Bool.{Bool, true, false, cond, not, _||_}
+use mathlib.Core.List.{List}
+use mathlib.Core.Option.{Option, none, some}
+use Prim.Native.Nat.{ℕ, _+_}
+use lib.Dec.{eqb}
+use Rattle.rules.specs.declared.Channel.{Channel}
+use Rattle.rules.specs.declared.Step.{Step}
+use Rattle.rules.specs.declared.Step.the-variants as step
+use Rattle.rules.specs.declared.Answer.{Answer}
+use Rattle.rules.specs.declared.Basis.{Basis}
+use Rattle.rules.specs.declared.Basis.the-variants as basis
+use Rattle.rules.specs.declared.Bounded.{Bounded}
+use Rattle.rules.specs.declared.Bounded.the-variants as bounded
+use Rattle.rules.specs.Image.{Image, state}
+use Rattle.rules.specs.Sources.{unmasked, dmaEnabled, level}
+use Rattle.rules.specs.Outcomes.{outcome, isRefused}
+use Rattle.rules.specs.Steps.{actOf}
+use Rattle.rules.specs.Runs.{Event, oneIf}
+use Rattle.rules.specs.Waiting.{rival, H, triggers, triggersOf}
+use Rattle.rules.specs.Handlers.{raisedBy, raisedOf}
+use Rattle.rules.specs.HandlerBounds.{differ, brokenBy, firstBroken, brokenElse}
+use Rattle.handlers.specs.declared.Broken.{Broken}
+use Rattle.handlers.specs.declared.Broken.the-variants as breaks
+use Rattle.handlers.specs.declared.Seen.{Seen}
+
+-- ---- what a write changed
+
+-- of one source
+abbrev pub sourceChanges : List Channel → Image → Image → Basis → ℕ → Bool
+sourceChanges cs before after basis.Pending k = false
+sourceChanges cs before after basis.Mode k = false
+sourceChanges cs before after basis.CurrentLevel k = false
+sourceChanges cs before after basis.TopLevel k = false
+sourceChanges cs before after basis.Mask k = differ (unmasked after cs k) (unmasked before cs k)
+sourceChanges cs before after basis.DmaEnable k = differ (dmaEnabled after cs k) (dmaEnabled before cs k)
+sourceChanges cs before after basis.Level k = not (eqb (level after cs k) (level before cs k))
+
+-- ---- what a step breaks
+
+-- as the code has it
+abbrev pub broken : Option Bounded → Broken
+broken none = breaks.Nothing
+broken (some b) = breaks.By b
+
+-- a step of a kind that may be done
+abbrev pub mayDo : Step → Bool
+mayDo (step.Read r) = true
+mayDo (step.Write r v) = true
+mayDo (step.Trigger t) = true
+mayDo step.Arbitrate = true
+mayDo step.Return = true
+mayDo step.Reset = false
+mayDo step.Unknown = false
+
+-- what a step breaks that is no write, by its answer and whether it is an arbitration with interrupts disabled
+abbrev pub brokenCall : Step → Answer → Bool → ℕ → Broken
+brokenCall x a disabled i =
+    cond disabled (breaks.By (bounded.InterruptsDisabled i)) (cond (isRefused a) breaks.Nothing (cond (mayDo x) breaks.Nothing (breaks.By (bounded.OtherStep i))))
+
+-- ---- a step that is followed
+
+-- a step with the image that it got, what it answered and left
+abbrev pub eventIn : Image → Step → Answer → Image → Event
+eventIn before x a after = record { before = state before; step = x; outcome = outcome a (state after) }
+
+-- how many of a set an event triggers or raises
+abbrev pub more : List Channel → (ℕ → Bool) → Event → ℕ
+more cs among e = oneIf (triggers among e) + raisedBy cs among e
+
+-- the step x at index i, from the image `before` in a list from `start`: done, with what it breaks, and how many of the rivals at the start it triggers or raises
+pub record Follows (start before : Image) (cs : List Channel) (s : ℕ) (x : Step) (i : ℕ) (f : Seen) (after : Image) : Type 0 where
+  pub did : outcome (f .answer) (state after) ≡ actOf (state before) cs x
+  pub breaks : f .broken ≡ broken (brokenBy cs s (eventIn before x (f .answer) after) i)
+  pub counts : f .more ≡ more cs (rival start cs s) (eventIn before x (f .answer) after)
+
+-- ---- the loop
+
+-- H, E and the bound
+abbrev pub withinOf : Image → List Channel → ℕ → ℕ → Bounded
+withinOf m cs s e = bounded.Within (H m cs s) e (H m cs s + e + 1)
+
+-- what is answered of the events es from step n on, where those before them triggered or raised e of the set
+unfoldable pub followedFrom : List Channel → ℕ → (ℕ → Bool) → ℕ → ℕ → ℕ → List Event → Bounded
+followedFrom cs s among h n e es = brokenElse (firstBroken cs s n es) h (e + (triggersOf among es + raisedOf cs among es))

@@ -1,0 +1,197 @@
+// The bound over lists with reads and writes, on an image and a list that are accepted, for a source that is there: the premises on the start, as demand 3
+// has them, then the steps until ours is acknowledged, followed on a copy of the image.
+mod changes;
+
+use bits::has_bit;
+use bounds::Premises;
+use bounds::copy_of;
+use bounds::rival_trigger;
+use bounds::start_premises;
+use changes::first_changed;
+use changes::raised_rivals;
+use dispatch::acknowledged;
+use dispatch::act;
+use dispatch::decode;
+use dispatch::is_arbitration;
+use dispatch::is_write;
+use dispatch::verdict_of;
+use rules::Answer;
+use rules::Bounded;
+use rules::CICR;
+use rules::Channels;
+use rules::IEN;
+use rules::Step;
+use rules::Verdict;
+use sources::pending_rivals;
+ghost use mathlib.Core.Path.{_≡_};
+ghost use mathlib.Core.Bool.{true, not, _&&_};
+ghost use Prim.Native.Nat.{_<_, _≤_, _+_};
+ghost use lib.ListN.{length};
+ghost use Rattle.rules.specs.Image.{imageLength, state};
+ghost use Rattle.rules.specs.Channels.{listOk, listOf};
+ghost use Rattle.rules.specs.Outcomes.{outcome};
+ghost use Rattle.rules.specs.Sources.{sources};
+ghost use Rattle.rules.specs.Steps.{stepsOf, actOf};
+ghost use Rattle.rules.specs.Runs.{history};
+ghost use Rattle.rules.specs.Waiting.{rival};
+ghost use Rattle.rules.specs.Handlers.{isWrite, upTo};
+ghost use Rattle.rules.specs.Bounds.{startElse};
+ghost use Rattle.rules.specs.HandlerBounds.{handlerBoundIn};
+ghost use Rattle.handlers.specs.Handled.{mayDo, brokenCall, Follows, withinOf};
+
+// What a step breaks of the premises on the steps: nothing, or what is answered of it.
+pub enum Broken {
+    Nothing,
+    By(Bounded),
+}
+
+// What a step that was followed answered, what it broke, and how many unmasked sources outranking ours it triggered or made pending by a write.
+pub struct Seen {
+    pub answer: Answer,
+    pub broken: Broken,
+    pub more: usize,
+}
+
+// Whether a step that is no write may be done: a reset may not.
+fn may_do(step: Step) -> bool
+    ensures { λ b. ⌜ b ≡ mayDo step ⌝ }
+{
+    match step {
+        Step::Read(_) => true,
+        Step::Write(_, _) => true,
+        Step::Trigger(_) => true,
+        Step::Arbitrate => true,
+        Step::Return => true,
+        Step::Reset => false,
+        Step::Unknown => false,
+    }
+}
+
+// What a step that is no write breaks, by its answer and whether it is an arbitration with interrupts disabled.
+fn broken_call(step: Step, a: Answer, disabled: bool, index: usize) -> Broken
+    ensures { λ b. ⌜ b ≡ brokenCall step a disabled index ⌝ }
+{
+    if disabled {
+        return Broken::By(Bounded::InterruptsDisabled { index });
+    }
+    match verdict_of(a) {
+        Verdict::Accepted => {
+            if may_do(step) {
+                return Broken::Nothing;
+            }
+            Broken::By(Bounded::OtherStep { index })
+        }
+        Verdict::Refused(_) => Broken::Nothing,
+    }
+}
+
+// A write: done on the copy, and held against what was there before.
+fn follow_write(
+    start: &[u8],
+    copy: &mut [u8],
+    all: Channels,
+    ours: usize,
+    step: Step,
+    index: usize,
+) -> Seen
+    requires { ⌜ (length (now start) ≡ imageLength) × (length (now copy) ≡ imageLength) × (listOk (listOf all) ≡ true) × (ours < sources (listOf all)) × (isWrite step ≡ true) ⌝ }
+    ensures { λ f. ⌜ Follows (now (start .entry)) (now (copy .entry)) (listOf all) ours step index f (now (copy .exit)) ⌝ }
+{
+    let before = copy_of(copy);
+    let answer = act(copy, all, step);
+    match verdict_of(answer) {
+        Verdict::Accepted => {
+            let broken = first_changed(&before, copy, all, ours, index);
+            let more = raised_rivals(start, &before, copy, all, ours);
+            Seen {
+                answer,
+                broken,
+                more,
+            }
+        }
+        Verdict::Refused(_) => Seen {
+            answer,
+            broken: Broken::Nothing,
+            more: 0,
+        },
+    }
+}
+
+// A step: done on the copy, with what it breaks and triggers.
+fn follow(
+    start: &[u8],
+    copy: &mut [u8],
+    all: Channels,
+    ours: usize,
+    step: Step,
+    index: usize,
+) -> Seen
+    requires { ⌜ (length (now start) ≡ imageLength) × (length (now copy) ≡ imageLength) × (listOk (listOf all) ≡ true) × (ours < sources (listOf all)) ⌝ }
+    ensures { λ f. ⌜ Follows (now (start .entry)) (now (copy .entry)) (listOf all) ours step index f (now (copy .exit)) ⌝ }
+{
+    if is_write(step) {
+        return follow_write(start, copy, all, ours, step, index);
+    }
+    let disabled = is_arbitration(step) & !has_bit(copy[CICR], IEN);
+    let answer = act(copy, all, step);
+    let broken = broken_call(step, answer, disabled, index);
+    let more = rival_trigger(start, all, ours, step, answer);
+    Seen {
+        answer,
+        broken,
+        more,
+    }
+}
+
+// H, E and the bound.
+fn within(image: &[u8], all: Channels, ours: usize, triggers: usize) -> Bounded
+    requires { ⌜ (length (now image) ≡ imageLength) × (listOk (listOf all) ≡ true) × (ours < sources (listOf all)) × (triggers ≤ 0xc000000000000000) ⌝ }
+    ensures { λ b. ⌜ b ≡ withinOf (now (image .entry)) (listOf all) ours triggers ⌝ }
+{
+    let outranking = pending_rivals(image, all, ours);
+    Bounded::Within {
+        outranking,
+        triggers,
+        bound: outranking + triggers + 1,
+    }
+}
+
+// The premises on the steps until ours is acknowledged, and the bound where they hold.
+fn followed(image: &[u8], all: Channels, source: u32, words: &[u64]) -> Bounded
+    requires { ⌜ (length (now image) ≡ imageLength) × (listOk (listOf all) ≡ true) × (source < sources (listOf all)) ⌝ }
+    ensures { λ b. ⌜ b ≡ handlerBoundIn (now (image .entry)) (listOf all) source (upTo source (history (state (now (image .entry))) (listOf all) (stepsOf (now (words .entry))))) ⌝ }
+{
+    let ours = source as usize;
+    let mut copy = copy_of(image);
+    let mut triggers: usize = 0;
+    let mut done: usize = 0;
+    while done < words.len() {
+        let f = follow(image, &mut copy, all, ours, decode(words[done]), done);
+        let broken = f.broken;
+        match broken {
+            Broken::By(b) => {
+                return b;
+            }
+            Broken::Nothing => {
+                triggers += f.more;
+                done += 1;
+                let answer = f.answer;
+                if acknowledged(answer, source) {
+                    return within(image, all, ours, triggers);
+                }
+            }
+        }
+    }
+    within(image, all, ours, triggers)
+}
+
+// The premises on the start, then those on the steps.
+pub fn handler_bound_accepted(image: &[u8], all: Channels, source: u32, words: &[u64]) -> Bounded
+    requires { ⌜ (length (now image) ≡ imageLength) × (listOk (listOf all) ≡ true) × (source < sources (listOf all)) ⌝ }
+    ensures { λ b. ⌜ b ≡ startElse (now (image .entry)) (listOf all) source (handlerBoundIn (now (image .entry)) (listOf all) source (upTo source (history (state (now (image .entry))) (listOf all) (stepsOf (now (words .entry)))))) ⌝ }
+{
+    match start_premises(image, all, source) {
+        Premises::Hold => followed(image, all, source, words),
+        Premises::Fail(b) => b,
+    }
+}

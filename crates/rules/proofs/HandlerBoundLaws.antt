@@ -1,0 +1,204 @@
+-- The bound of Handlers as a function: a bound is answered exactly where the premises hold, else the first premise that fails. Assumes nothing.
+use mathlib.Core.Path.{_≡_, refl, _∙_, subst}
+use mathlib.Core.Logic.{_⊎_, inl, inr}
+use mathlib.Core.List.{List, [], _∷_}
+use mathlib.Core.Bool.{Bool, true, false, cond}
+use mathlib.Core.Option.{Option, none, some}
+use Prim.Native.Nat.{ℕ, suc, _+_, _≤_}
+use native.Mathlib.Omega.{arith}
+use lib.ListN.{take, drop}
+use Rattle.rules.specs.declared.Channel.{Channel}
+use Rattle.rules.specs.declared.Step.{Step}
+use Rattle.rules.specs.declared.Step.the-variants as step
+use Rattle.rules.specs.declared.Verdict.{Verdict}
+use Rattle.rules.specs.declared.Verdict.the-variants as verdict
+use Rattle.rules.specs.declared.Basis.{Basis}
+use Rattle.rules.specs.declared.Bounded.{Bounded}
+use Rattle.rules.specs.declared.Bounded.the-variants as bounded
+use Rattle.rules.specs.Image.{Image, state, has, IEN}
+use Rattle.rules.specs.Runs.{Event, history, eventRefused, isArbitration, eventAcknowledges, waitVerdict}
+use Rattle.rules.specs.Waiting.{rival, H, Start}
+use Rattle.rules.specs.Handlers.{isWrite, EAndRaised, MayDo, Handles, upTo}
+use Rattle.rules.specs.Steps.{stepsOf}
+use Rattle.rules.specs.Bounds.{startElse, disabledStep, unlessRefused, boundOf, BoundSays}
+use Rattle.rules.specs.Promises.{HandlerBoundWaits}
+use Rattle.rules.specs.HandlerBounds.{changes, bases, firstChanged, brokenStep, brokenBy, orLater, firstBroken, brokenElse, handlerBoundIn, handlerBoundOf, HandlerBoundSays}
+use Rattle.rules.proofs.Bools.{not-both}
+use Rattle.rules.proofs.Refusals.{lent-accepted}
+use Rattle.rules.proofs.WaitLaws.{wait-accepted}
+use Rattle.rules.proofs.FirstFailing.{Above, above-start, FailingBy, start-failing}
+use Rattle.rules.proofs.Handlers.{handle-until, fewer-until}
+use Rattle.rules.proofs.Demand3.{calls-handle, calls-raise-none}
+use Rattle.rules.proofs.RunsAndWaits.{wait-within}
+use Rattle.rules.proofs.ChangeLaws.{leaves-unchanged, unchanged-leaves, FirstIs, first-is, every-basis}
+use Rattle.rules.proofs.BoundLaws.{implied, implies, exactly-where, start-kept, bound-says, keeps-told}
+
+-- ---- what a step, an event and a list break
+
+module _ (cs : List Channel) (s : ℕ) where
+  -- a step that is not refused: it may be done, or it may not and the answer says why
+  abbrev StepBreaks : Image → Step → Image → ℕ → Option Bounded → Type 0
+  StepBreaks m x m' i none = MayDo cs s m x m'
+  StepBreaks m x m' i (some b) =
+      (MayDo cs s m x m' → ⊥)
+      × (((b ≡ bounded.OtherStep i) × (isWrite x ≡ false)) ⊎ ((a : Basis) × (b ≡ bounded.Changed a i) × (isWrite x ≡ true) × (changes cs s m m' a ≡ true)))
+
+  step-breaks : (m : Image) (x : Step) (m' : Image) (i : ℕ) → StepBreaks m x m' i (brokenStep cs s m x m' i)
+  unfolding brokenStep
+  step-breaks m (step.Read r) m' i = tt
+  step-breaks m (step.Write r v) m' i = go (firstChanged p bases i) (first-is p i bases)
+    where
+      p : Basis → Bool
+      p = changes cs s m m'
+
+      go : (o : Option Bounded) → FirstIs p i bases o → StepBreaks m (step.Write r v) m' i o
+      go none f = unchanged-leaves cs s m m' (every-basis p i f)
+      go (some b) f = (λ l. not-both (p (f .0)) (f .2) (leaves-unchanged cs s m m' l (f .0)), inr (f .0, f .1, refl, f .2))
+  step-breaks m (step.Trigger t) m' i = tt
+  step-breaks m step.Arbitrate m' i = tt
+  step-breaks m step.Return m' i = tt
+  step-breaks m step.Reset m' i = (λ z. z, inl (refl, refl))
+  step-breaks m step.Unknown m' i = (λ z. z, inl (refl, refl))
+
+  -- the premises on one event
+  abbrev Meets : Event → Type 0
+  Meets e =
+      (eventRefused e ≡ false → MayDo cs s (e .before .image) (e .step) (e .outcome .state .image))
+      × (isArbitration (e .step) ≡ true → has (e .before .image) IEN ≡ true)
+
+  abbrev EventBreaks : Event → ℕ → Option Bounded → Type 0
+  EventBreaks e i none = Meets e
+  EventBreaks e i (some b) =
+      (Meets e → ⊥)
+      × (((b ≡ bounded.InterruptsDisabled i) × (disabledStep e ≡ true))
+      ⊎ ((eventRefused e ≡ false) × StepBreaks (e .before .image) (e .step) (e .outcome .state .image) i (some b)))
+
+  event-breaks : (e : Event) (i : ℕ) → EventBreaks e i (brokenBy cs s e i)
+  unfolding brokenBy
+  event-breaks e i =
+      go (disabledStep e) (eventRefused e) (brokenStep cs s (e .before .image) (e .step) (e .outcome .state .image) i) refl refl
+      (step-breaks (e .before .image) (e .step) (e .outcome .state .image) i)
+    where
+      enabled : disabledStep e ≡ false → isArbitration (e .step) ≡ true → has (e .before .image) IEN ≡ true
+      enabled = implies (isArbitration (e .step)) (has (e .before .image) IEN)
+
+      go : (d r : Bool) (o : Option Bounded) → disabledStep e ≡ d → eventRefused e ≡ r → StepBreaks (e .before .image) (e .step) (e .outcome .state .image) i o
+          → EventBreaks e i (cond d (some (bounded.InterruptsDisabled i)) (cond r none o))
+      go true r o p q f =
+          (λ h. not-both (disabledStep e) p (implied (isArbitration (e .step)) (has (e .before .image) IEN) (h .1)), inl (refl, p))
+      go false true o p q f = (λ t. absurd (not-both (eventRefused e) q t), enabled p)
+      go false false none p q f = (λ t. f, enabled p)
+      go false false (some b) p q f = (λ h. f .0 (h .0 q), inr (q, f))
+
+  -- none where the premises hold; else the first event that breaks one
+  abbrev ListBreaks : List Event → ℕ → Option Bounded → Type 0
+  ListBreaks es i none = Handles cs s es
+  ListBreaks es i (some b) =
+      (n : ℕ) × (e : Event) × (rest : List Event) × (drop n es ≡ (e ∷ rest)) × Handles cs s (take n es) × EventBreaks e (i + n) (some b)
+
+  list-breaks : (es : List Event) (i : ℕ) → ListBreaks es i (firstBroken cs s i es)
+  unfolding firstBroken
+  list-breaks [] i = tt
+  list-breaks (e ∷ es) i = go (brokenBy cs s e i) (firstBroken cs s (i + 1) es) (event-breaks e i) (list-breaks es (i + 1))
+    where
+      go : (o p : Option Bounded) → EventBreaks e i o → ListBreaks es (i + 1) p → ListBreaks (e ∷ es) i (orLater o p)
+      go (some b) p f g = let z : i + 0 ≡ i = omega arith in (0, e, es, refl, tt, rw z f)
+      go none none f g = (f .0, f .1, g)
+      go none (some b) f g =
+          let z : i + suc (g .0) ≡ i + 1 + g .0 = omega arith in (suc (g .0), g .1, g .2, g .3, (f .0, f .1, g .4), rw z (g .5))
+
+  meets-none : (e : Event) (i : ℕ) → Meets e → brokenBy cs s e i ≡ none
+  meets-none e i h = go (brokenBy cs s e i) (event-breaks e i)
+    where
+      go : (o : Option Bounded) → EventBreaks e i o → o ≡ none
+      go none f = refl
+      go (some b) f = absurd (f .0 h)
+
+  handles-none : (es : List Event) (i : ℕ) → Handles cs s es → firstBroken cs s i es ≡ none
+  unfolding firstBroken
+  handles-none [] i h = refl
+  handles-none (e ∷ es) i h = rw (meets-none e i (h .0, h .1)) (handles-none es (i + 1) (h .2))
+
+  pub none-handles : (es : List Event) → firstBroken cs s 0 es ≡ none → Handles cs s es
+  none-handles es e = subst (ListBreaks es 0) e (list-breaks es 0)
+
+-- ---- the first premise that fails
+
+module _ (m : Image) (cs : List Channel) (s : ℕ) (es : List Event) where
+  -- the event at index i breaks a premise, and the events before it don't
+  abbrev FailsAt : (Event → Type 0) → ℕ → Type 0
+  FailsAt P i = (e : Event) × (rest : List Event) × (drop i es ≡ (e ∷ rest)) × Handles cs s (take i es) × P e
+
+  -- a step that may not be done and is no write; a write that changed what it may not; an arbitration with interrupts disabled
+  abbrev pub HandlerFailing : Bounded → Type 0
+  HandlerFailing =
+      FailingBy m cs s
+      (FailsAt (λ e. (eventRefused e ≡ false) × (isWrite (e .step) ≡ false) × (MayDo cs s (e .before .image) (e .step) (e .outcome .state .image) → ⊥)))
+      (λ a. FailsAt (λ e. (eventRefused e ≡ false) × (isWrite (e .step) ≡ true) × (changes cs s (e .before .image) (e .outcome .state .image) a ≡ true)))
+      (FailsAt (λ e. disabledStep e ≡ true)) (Handles cs s es)
+
+  steps-failing : Above m cs s → (o : Option Bounded) (h e : ℕ) → ListBreaks cs s es 0 o → HandlerFailing (brokenElse o h e)
+  steps-failing a none h e f = (a, f)
+  steps-failing a (some b) h e f = let z : 0 + f .0 ≡ f .0 = omega arith in go (rw z at (f .5 .1))
+    where
+      go : ((b ≡ bounded.InterruptsDisabled (f .0)) × (disabledStep (f .1) ≡ true))
+          ⊎ ((eventRefused (f .1) ≡ false) × StepBreaks cs s (f .1 .before .image) (f .1 .step) (f .1 .outcome .state .image) (f .0) (some b))
+          → HandlerFailing b
+      go (inl q) = rw (q .0) (a, (f .1, f .2, f .3, f .4, q .1))
+      go (inr (r, (may, inl q))) = rw (q .0) (a, (f .1, f .2, f .3, f .4, (r, q .1, may)))
+      go (inr (r, (may, inr q))) = rw (q .1) (a, (f .1, f .2, f .3, f .4, (r, q .2, q .3)))
+
+module _ (m : Image) (cs : List Channel) (s : ℕ) (xs : List Step) where
+  -- the steps until ours is acknowledged
+  abbrev events : List Event
+  events = upTo s (history (state m) cs xs)
+
+  -- each answer is the first premise that fails
+  pub handler-failing : HandlerFailing m cs s events (handlerBoundOf (state m) cs s xs)
+  unfolding handlerBoundOf handlerBoundIn
+  handler-failing = go (waitVerdict (state m) cs s) refl
+    where
+      go : (v : Verdict) → waitVerdict (state m) cs s ≡ v → HandlerFailing m cs s events (unlessRefused v (startElse m cs s (handlerBoundIn m cs s events)))
+      go verdict.Accepted e =
+          start-failing m cs s _ _ _ _ (handlerBoundIn m cs s events)
+          (λ a. steps-failing m cs s events a (firstBroken cs s 0 events) (H m cs s) (EAndRaised m cs s events) (list-breaks cs s events 0)) e
+      go (verdict.Refused r) e = e
+
+  -- with the premises the bound is H + E + 1
+  pub handler-bound-given : Start m cs s → Handles cs s events
+      → handlerBoundOf (state m) cs s xs ≡ bounded.Within (H m cs s) (EAndRaised m cs s events) (H m cs s + EAndRaised m cs s events + 1)
+  unfolding handlerBoundOf handlerBoundIn
+  handler-bound-given a c =
+      rw (wait-accepted (state m) cs s (lent-accepted (state m) cs (a .calm .long) (a .calm .listed)) (a .there))
+      (start-kept m cs s (handlerBoundIn m cs s events) a ∙ rw (handles-none cs s events 0 c))
+
+  -- and with a bound they hold
+  pub handler-premises : (h e k : ℕ) → handlerBoundOf (state m) cs s xs ≡ bounded.Within h e k → Start m cs s × Handles cs s events
+  handler-premises h e k q = let f = subst (HandlerFailing m cs s events) q handler-failing in (above-start m cs s (f .0), f .1)
+
+  -- so one is answered exactly where they hold
+  pub handler-bound-says : HandlerBoundSays m cs s xs (handlerBoundOf (state m) cs s xs)
+  handler-bound-says =
+      exactly-where (Start m cs s) (Handles cs s events) (H m cs s) (EAndRaised m cs s events) (handlerBoundOf (state m) cs s xs) handler-bound-given
+      handler-premises
+
+  -- where demand 3's bound is answered this one is too, and is no larger
+  pub handler-bound-sharper : (h e k : ℕ) → boundOf (state m) cs s xs ≡ bounded.Within h e k
+      → (e' : ℕ) × (e' ≤ e) × (handlerBoundOf (state m) cs s xs ≡ bounded.Within h e' (h + e' + 1))
+  handler-bound-sharper h e k q =
+      let es = history (state m) cs xs in
+      let given : BoundSays m cs s xs (bounded.Within h e k) = subst (BoundSays m cs s xs) q (bound-says m cs s xs) in (
+        EAndRaised m cs s events,
+        omega (arith, given .3, fewer-until m cs s (eventAcknowledges s) es, calls-raise-none cs s (rival m cs s) es (given .1)),
+        rw (given .2) (handler-bound-given (given .0) (handle-until cs s (eventAcknowledges s) es (calls-handle cs s es (given .1)))),
+      )
+
+-- ---- a wait report on the same data
+
+pub handler-bound-waits : HandlerBoundWaits
+handler-bound-waits m cs s words b w after bounds waits =
+    let xs = stepsOf words in
+    keeps-told m cs s words b (handlerBoundOf (state m) cs s xs) w after bounds waits
+    (λ h e k q.
+    let given : HandlerBoundSays m cs s xs (bounded.Within h e k) = subst (HandlerBoundSays m cs s xs) q (handler-bound-says m cs s xs) in
+    (rw (given .2, given .3) (wait-within m cs s xs (given .0) (given .1)), given .4))
