@@ -63,8 +63,8 @@ Runs before cs words r after =
     (toldRun r ≡ toldRun (runOf (state before) cs (stepsOf words) .answer)) × (after ≡ runOf (state before) cs (stepsOf words) .state .image)
 
 -- and what demand 3 and Handlers say of it
-abbrev pub RunKeeps : Image → List Channel → List ℕ → Ran → Image → Type 0
-RunKeeps before cs words r after =
+abbrev pub RunClaims : Image → List Channel → List ℕ → Ran → Image → Type 0
+RunClaims before cs words r after =
     Runs before cs words r after × Demand3OfRun before cs (stepsOf words) after × HandlersOfRun before cs (stepsOf words) after
 
 -- a wait report for a source over a list of words
@@ -74,8 +74,8 @@ Waits before cs source words w after =
     × (after ≡ waitOf (state before) cs source (stepsOf words) .state .image)
 
 -- and what demand 3 and Handlers say of it
-abbrev pub WaitReportKeeps : Image → List Channel → ℕ → List ℕ → Waited → Image → Type 0
-WaitReportKeeps before cs source words w after =
+abbrev pub WaitClaims : Image → List Channel → ℕ → List ℕ → Waited → Image → Type 0
+WaitClaims before cs source words w after =
     Waits before cs source words w after × Demand3OfWait before cs source (stepsOf words) w after × HandlersOfWait before cs source (stepsOf words) w after
 
 -- demand 3's bound for a source over a list of words; the image is only read
@@ -83,8 +83,8 @@ abbrev pub Bounds : Image → List Channel → ℕ → List ℕ → Bounded → 
 Bounds before cs source words b = toldBound b ≡ toldBound (boundOf (state before) cs source (stepsOf words))
 
 -- and what it says
-abbrev pub BoundKeeps : Image → List Channel → ℕ → List ℕ → Bounded → Type 0
-BoundKeeps before cs source words b = Bounds before cs source words b × BoundSays before cs source (stepsOf words) b
+abbrev pub BoundClaims : Image → List Channel → ℕ → List ℕ → Bounded → Type 0
+BoundClaims before cs source words b = Bounds before cs source words b × BoundSays before cs source (stepsOf words) b
 
 -- what it says of a wait report on the same image, list, source and words
 abbrev pub BoundWaits : Type 0
@@ -96,8 +96,8 @@ BoundWaits =
 abbrev pub HandlerBounds : Image → List Channel → ℕ → List ℕ → Bounded → Type 0
 HandlerBounds before cs source words b = toldBound b ≡ toldBound (handlerBoundOf (state before) cs source (stepsOf words))
 
-abbrev pub HandlerBoundKeeps : Image → List Channel → ℕ → List ℕ → Bounded → Type 0
-HandlerBoundKeeps before cs source words b = HandlerBounds before cs source words b × HandlerBoundSays before cs source (stepsOf words) b
+abbrev pub HandlerBoundClaims : Image → List Channel → ℕ → List ℕ → Bounded → Type 0
+HandlerBoundClaims before cs source words b = HandlerBounds before cs source words b × HandlerBoundSays before cs source (stepsOf words) b
 
 abbrev pub HandlerBoundWaits : Type 0
 HandlerBoundWaits =

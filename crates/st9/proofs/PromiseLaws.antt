@@ -1,4 +1,5 @@
--- What a promise says of the copy it says of the lent list, and what demand 3 says of a run, a wait report and a bound that keep theirs. Assumes nothing.
+-- What a promise says of the copy it says of the lent list, and what demand 3 and Handlers say of a run, a wait report and a bound that keep theirs.
+-- Assumes nothing.
 use mathlib.Core.Path.{_≡_, refl, sym, subst}
 use mathlib.Core.Bool.{Bool, true, false, cond}
 use mathlib.Core.List.{List}
@@ -19,14 +20,15 @@ use Rattle.rules.specs.Channels.{mostRecords, listOf}
 use Rattle.rules.specs.Outcomes.{Outcome}
 use Rattle.rules.specs.Steps.{lentVerdict, stepOf, stepsOf}
 use Rattle.rules.specs.Runs.{RunOutcome, runOf, WaitOutcome, waitVerdict, waitOf}
-use Rattle.rules.specs.Waiting.{Demand3OfRun, Demand3OfWait}
 use Rattle.rules.specs.Bounds.{boundOf, BoundSays}
+use Rattle.rules.specs.HandlerBounds.{handlerBoundOf, HandlerBoundSays}
 use Rattle.rules.specs.Answers.{told, toldRun, toldWait, toldBound}
-use Rattle.rules.specs.Promises.{Does, Runs, Waits, Bounds}
+use Rattle.rules.specs.Promises.{Does, Runs, RunClaims, Waits, WaitClaims, Bounds, BoundClaims, HandlerBounds, HandlerBoundClaims}
 use Rattle.rules.proofs.ListLaws.{list-long}
 use Rattle.rules.proofs.Told.{told-wait-injective, told-bound-injective}
-use Rattle.rules.proofs.RunsAndWaits.{run-demand3, wait-demand3}
+use Rattle.rules.proofs.RunsAndWaits.{run-demand3, run-handlers, wait-demand3, wait-handlers}
 use Rattle.rules.proofs.BoundLaws.{bound-says}
+use Rattle.rules.proofs.HandlerBoundLaws.{handler-bound-says}
 use Rattle.lent.specs.Copies.{copyOf}
 use Rattle.lent.proofs.CopyLaws.{through}
 
@@ -60,6 +62,10 @@ module _ (s : State) (bs cs : List Channel) (h : mostRecords < length bs) (k : m
   unfolding boundOf waitVerdict
   bound-alike source xs = rw (long-refused s bs h, long-refused s cs k)
 
+  handler-bound-alike : (source : ℕ) (xs : List Step) → handlerBoundOf s bs source xs ≡ handlerBoundOf s cs source xs
+  unfolding handlerBoundOf waitVerdict
+  handler-bound-alike source xs = rw (long-refused s bs h, long-refused s cs k)
+
 -- ---- from the copy to the lent list
 
 module _ (m : Image) (cs : List Channel) where
@@ -69,33 +75,39 @@ module _ (m : Image) (cs : List Channel) where
       subst (λ (o : Outcome). (told a ≡ told (o .answer)) × (m' ≡ o .state .image))
       (through (λ (l : List Channel). stepOf (state m) l x) (λ bs ds h k. step-alike (state m) bs ds h k x) cs)
 
-  -- a run, with what demand 3 says of it
-  pub lent-runs : (ws : List ℕ) (r : Ran) (m' : Image) → Runs m (listOf (copyOf cs)) ws r m' → Runs m cs ws r m' × Demand3OfRun m cs (stepsOf ws) m'
+  -- a run, with what is claimed of it
+  pub lent-runs : (ws : List ℕ) (r : Ran) (m' : Image) → Runs m (listOf (copyOf cs)) ws r m' → RunClaims m cs ws r m'
   lent-runs ws r m' promise =
       let p : Runs m cs ws r m' =
       subst (λ (o : RunOutcome). (toldRun r ≡ toldRun (o .answer)) × (m' ≡ o .state .image))
       (through (λ (l : List Channel). runOf (state m) l (stepsOf ws)) (λ bs ds h k. run-alike (state m) bs ds h k (stepsOf ws)) cs) promise in
-      (p, subst (Demand3OfRun m cs (stepsOf ws)) (sym (p .1)) (run-demand3 m cs (stepsOf ws)))
+      (p, rw (p .1) (run-demand3 m cs (stepsOf ws)), rw (p .1) (run-handlers m cs (stepsOf ws)))
 
   -- a wait report, likewise
-  pub lent-waits : (source : ℕ) (ws : List ℕ) (w : Waited) (m' : Image) → Waits m (listOf (copyOf cs)) source ws w m'
-      → Waits m cs source ws w m' × Demand3OfWait m cs source (stepsOf ws) w m'
+  pub lent-waits : (source : ℕ) (ws : List ℕ) (w : Waited) (m' : Image) → Waits m (listOf (copyOf cs)) source ws w m' → WaitClaims m cs source ws w m'
   lent-waits source ws w m' promise =
       let p : Waits m cs source ws w m' =
       subst (λ (o : WaitOutcome). (toldWait w ≡ toldWait (o .answer)) × (m' ≡ o .state .image))
       (through (λ (l : List Channel). waitOf (state m) l source (stepsOf ws)) (λ bs ds h k. wait-alike (state m) bs ds h k source (stepsOf ws)) cs) promise in
-      let o : WaitOutcome = waitOf (state m) cs source (stepsOf ws) in (
-        p,
-        subst (λ (v : Waited). Demand3OfWait m cs source (stepsOf ws) v m') (sym (told-wait-injective w (o .answer) (p .0)))
-            (subst (λ (n : Image). Demand3OfWait m cs source (stepsOf ws) (o .answer) n) (sym (p .1)) (wait-demand3 m cs source (stepsOf ws))),
-      )
+      let same = told-wait-injective w (waitOf (state m) cs source (stepsOf ws) .answer) (p .0) in
+      (p, rw (same, p .1) (wait-demand3 m cs source (stepsOf ws)), rw (same, p .1) (wait-handlers m cs source (stepsOf ws)))
 
-  -- a bound, with what it says
-  pub lent-bounds : (source : ℕ) (ws : List ℕ) (b : Bounded) → Bounds m (listOf (copyOf cs)) source ws b
-      → Bounds m cs source ws b × BoundSays m cs source (stepsOf ws) b
-  lent-bounds source ws b promise =
-      let o : Bounded = boundOf (state m) cs source (stepsOf ws) in
-      let p : Bounds m cs source ws b =
-      subst (λ (o : Bounded). toldBound b ≡ toldBound o)
-      (through (λ (l : List Channel). boundOf (state m) l source (stepsOf ws)) (λ bs ds h k. bound-alike (state m) bs ds h k source (stepsOf ws)) cs) promise in
-      (p, subst (BoundSays m cs source (stepsOf ws)) (sym (told-bound-injective b o p)) (bound-says m cs source (stepsOf ws)))
+  -- a bound, with what it says: of either claim
+  module _ (boundBy : State → List Channel → ℕ → List Step → Bounded)
+      (alike : (bs ds : List Channel) → mostRecords < length bs → mostRecords < length ds → (source : ℕ) (xs : List Step) → boundBy (state m) bs source xs ≡ boundBy (state m) ds source xs)
+      (Says : List Step → ℕ → Bounded → Type 0) (says : (source : ℕ) (xs : List Step) → Says xs source (boundBy (state m) cs source xs)) where
+    bound-through : (source : ℕ) (ws : List ℕ) (b : Bounded) → toldBound b ≡ toldBound (boundBy (state m) (listOf (copyOf cs)) source (stepsOf ws))
+        → (toldBound b ≡ toldBound (boundBy (state m) cs source (stepsOf ws))) × Says (stepsOf ws) source b
+    bound-through source ws b promise =
+        let o : Bounded = boundBy (state m) cs source (stepsOf ws) in
+        let p : toldBound b ≡ toldBound o =
+        subst (λ (o : Bounded). toldBound b ≡ toldBound o)
+        (through (λ (l : List Channel). boundBy (state m) l source (stepsOf ws)) (λ bs ds h k. alike bs ds h k source (stepsOf ws)) cs) promise in
+        (p, subst (Says (stepsOf ws) source) (sym (told-bound-injective b o p)) (says source (stepsOf ws)))
+
+  pub lent-bounds : (source : ℕ) (ws : List ℕ) (b : Bounded) → Bounds m (listOf (copyOf cs)) source ws b → BoundClaims m cs source ws b
+  lent-bounds = bound-through boundOf (bound-alike (state m)) (λ xs source. BoundSays m cs source xs) (λ source xs. bound-says m cs source xs)
+
+  pub lent-handler-bounds : (source : ℕ) (ws : List ℕ) (b : Bounded) → HandlerBounds m (listOf (copyOf cs)) source ws b → HandlerBoundClaims m cs source ws b
+  lent-handler-bounds =
+      bound-through handlerBoundOf (handler-bound-alike (state m)) (λ xs source. HandlerBoundSays m cs source xs) (λ source xs. handler-bound-says m cs source xs)

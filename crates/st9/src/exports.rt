@@ -9,11 +9,8 @@ use rules::Flat;
 ghost use mathlib.Core.Path.{_≡_};
 ghost use Rattle.rules.specs.Channels.{listIn};
 ghost use Rattle.rules.specs.Registers.{viewVerdict};
-ghost use Rattle.rules.specs.Steps.{stepsOf};
 ghost use Rattle.rules.specs.Answers.{told, toldRun, toldWait, toldBound, toldVerdict};
-ghost use Rattle.rules.specs.Promises.{DoesWord, Runs, Waits, Bounds, Tells};
-ghost use Rattle.rules.specs.Waiting.{Demand3OfRun, Demand3OfWait};
-ghost use Rattle.rules.specs.Bounds.{BoundSays};
+ghost use Rattle.rules.specs.Promises.{DoesWord, RunClaims, WaitClaims, BoundClaims, HandlerBoundClaims, Tells};
 
 // One step, given as a word.
 #[no_mangle]
@@ -24,19 +21,19 @@ pub extern "C" fn st9_step(image: &mut [u8], channels: &[u8], word: u64) -> Flat
     of_step(machine::perform(image, all, word))
 }
 
-// A run of steps given as words; and what demand 3 says of it.
+// A run of steps given as words; and what demand 3 and Handlers say of it.
 #[no_mangle]
 pub extern "C" fn st9_run(image: &mut [u8], channels: &[u8], words: &[u64]) -> Flat
-    ensures { λ f. ⌜ Tells toldRun (λ r. Runs (now (image .entry)) (listIn (now (channels .entry))) (now (words .entry)) r (now (image .exit)) × Demand3OfRun (now (image .entry)) (listIn (now (channels .entry))) (stepsOf (now (words .entry))) (now (image .exit))) f ⌝ }
+    ensures { λ f. ⌜ Tells toldRun (λ r. RunClaims (now (image .entry)) (listIn (now (channels .entry))) (now (words .entry)) r (now (image .exit))) f ⌝ }
 {
     let all = unpacked(channels);
     of_run(machine::run(image, all, words))
 }
 
-// The wait report for a source over steps given as words; and what demand 3 says of it.
+// The wait report for a source over steps given as words; and what demand 3 and Handlers say of it.
 #[no_mangle]
 pub extern "C" fn st9_wait(image: &mut [u8], channels: &[u8], source: u32, words: &[u64]) -> Flat
-    ensures { λ f. ⌜ Tells toldWait (λ w. Waits (now (image .entry)) (listIn (now (channels .entry))) source (now (words .entry)) w (now (image .exit)) × Demand3OfWait (now (image .entry)) (listIn (now (channels .entry))) source (stepsOf (now (words .entry))) w (now (image .exit))) f ⌝ }
+    ensures { λ f. ⌜ Tells toldWait (λ w. WaitClaims (now (image .entry)) (listIn (now (channels .entry))) source (now (words .entry)) w (now (image .exit))) f ⌝ }
 {
     let all = unpacked(channels);
     of_wait(machine::wait(image, all, source, words))
@@ -45,10 +42,24 @@ pub extern "C" fn st9_wait(image: &mut [u8], channels: &[u8], source: u32, words
 // Demand 3's bound for a source over steps given as words; and what it says.
 #[no_mangle]
 pub extern "C" fn st9_bound(image: &[u8], channels: &[u8], source: u32, words: &[u64]) -> Flat
-    ensures { λ f. ⌜ Tells toldBound (λ b. Bounds (now (image .entry)) (listIn (now (channels .entry))) source (now (words .entry)) b × BoundSays (now (image .entry)) (listIn (now (channels .entry))) source (stepsOf (now (words .entry))) b) f ⌝ }
+    ensures { λ f. ⌜ Tells toldBound (λ b. BoundClaims (now (image .entry)) (listIn (now (channels .entry))) source (now (words .entry)) b) f ⌝ }
 {
     let all = unpacked(channels);
     of_bound(machine::bound(image, all, source, words))
+}
+
+// The same over lists with reads and writes.
+#[no_mangle]
+pub extern "C" fn st9_handler_bound(
+    image: &[u8],
+    channels: &[u8],
+    source: u32,
+    words: &[u64],
+) -> Flat
+    ensures { λ f. ⌜ Tells toldBound (λ b. HandlerBoundClaims (now (image .entry)) (listIn (now (channels .entry))) source (now (words .entry)) b) f ⌝ }
+{
+    let all = unpacked(channels);
+    of_bound(machine::handler_bound(image, all, source, words))
 }
 
 // The number that the view of a page is refused with, 0 where it is accepted.

@@ -10,10 +10,7 @@ use rules::Ran;
 use rules::Trigger;
 use rules::Verdict;
 use rules::Waited;
-ghost use Rattle.rules.specs.Steps.{stepsOf};
-ghost use Rattle.rules.specs.Promises.{Reads, Writes, Triggers, Arbitrates, Returns, Resets, DoesWord, Runs, Waits, Bounds, Views, ViewRefuses};
-ghost use Rattle.rules.specs.Waiting.{Demand3OfRun, Demand3OfWait};
-ghost use Rattle.rules.specs.Bounds.{BoundSays};
+ghost use Rattle.rules.specs.Promises.{Reads, Writes, Triggers, Arbitrates, Returns, Resets, DoesWord, RunClaims, WaitClaims, BoundClaims, HandlerBoundClaims, Views, ViewRefuses};
 
 // Reads a register of the selected page or of the register file.
 pub fn read(image: &[u8], cs: &[Channel], register: u32) -> Answer
@@ -71,17 +68,17 @@ pub fn perform(image: &mut [u8], cs: &[Channel], word: u64) -> Answer
     machine::perform(image, all, word)
 }
 
-// A run of steps given as words; and what demand 3 says of it.
+// A run of steps given as words; and what demand 3 and Handlers say of it.
 pub fn run(image: &mut [u8], cs: &[Channel], words: &[u64]) -> Ran
-    ensures { λ r. ⌜ Runs (now (image .entry)) (now (cs .entry)) (now (words .entry)) r (now (image .exit)) × Demand3OfRun (now (image .entry)) (now (cs .entry)) (stepsOf (now (words .entry))) (now (image .exit)) ⌝ }
+    ensures { λ r. ⌜ RunClaims (now (image .entry)) (now (cs .entry)) (now (words .entry)) r (now (image .exit)) ⌝ }
 {
     let all = copied(cs);
     machine::run(image, all, words)
 }
 
-// The wait report for a source over steps given as words; and what demand 3 says of it.
+// The wait report for a source over steps given as words; and what demand 3 and Handlers say of it.
 pub fn wait(image: &mut [u8], cs: &[Channel], source: u32, words: &[u64]) -> Waited
-    ensures { λ w. ⌜ Waits (now (image .entry)) (now (cs .entry)) source (now (words .entry)) w (now (image .exit)) × Demand3OfWait (now (image .entry)) (now (cs .entry)) source (stepsOf (now (words .entry))) w (now (image .exit)) ⌝ }
+    ensures { λ w. ⌜ WaitClaims (now (image .entry)) (now (cs .entry)) source (now (words .entry)) w (now (image .exit)) ⌝ }
 {
     let all = copied(cs);
     machine::wait(image, all, source, words)
@@ -89,10 +86,19 @@ pub fn wait(image: &mut [u8], cs: &[Channel], source: u32, words: &[u64]) -> Wai
 
 // Demand 3's bound for a source over steps given as words: H, E and H + E + 1 where its premises hold, else the first that fails; and that a bound is answered exactly where they hold.
 pub fn bound(image: &[u8], cs: &[Channel], source: u32, words: &[u64]) -> Bounded
-    ensures { λ b. ⌜ Bounds (now (image .entry)) (now (cs .entry)) source (now (words .entry)) b × BoundSays (now (image .entry)) (now (cs .entry)) source (stepsOf (now (words .entry))) b ⌝ }
+    ensures { λ b. ⌜ BoundClaims (now (image .entry)) (now (cs .entry)) source (now (words .entry)) b ⌝ }
 {
     let all = copied(cs);
     machine::bound(image, all, source, words)
+}
+
+// The same bound over lists with reads and writes, up to the acknowledgement: E counts the pending bits that writes raise too, and of a write that changed what
+// the bound rests on, what it changed is answered. A bound is answered exactly where the premises hold.
+pub fn handler_bound(image: &[u8], cs: &[Channel], source: u32, words: &[u64]) -> Bounded
+    ensures { λ b. ⌜ HandlerBoundClaims (now (image .entry)) (now (cs .entry)) source (now (words .entry)) b ⌝ }
+{
+    let all = copied(cs);
+    machine::handler_bound(image, all, source, words)
 }
 
 // The sixteen bytes of a page, as stored: a part of the image, empty where the view is refused.

@@ -66,6 +66,15 @@ at-step-requires-2 c κs = search needs
 enum-known-b-4 : tie.Need-enum-known-b-4
 enum-known-b-4 c = search needs
 
+basis-number-requires : tie.Need-basis-number-requires
+basis-number-requires c κs = search needs
+
+at-step-requires-3 : tie.Need-at-step-requires-3
+at-step-requires-3 c κs = search needs
+
+enum-known-b-5 : tie.Need-enum-known-b-5
+enum-known-b-5 c = search needs
+
 values-requires-8 : tie.Need-values-requires-8
 values-requires-8 c κs = search needs
 
@@ -100,7 +109,10 @@ returns-10 : tie.Need-returns-10
 returns-10 c = simp (c .at-step2 .ensures, c .before .before .b3 .given .1)
 
 returns-11 : tie.Need-returns-11
-returns-11 c = simp (c .values8 .ensures, c .before .before .b4 .given .1)
+returns-11 c = simp (c .at-step3 .ensures, c .before .basis-number .ensures, c .before .before .before .b4 .given .1)
+
+returns-12 : tie.Need-returns-12
+returns-12 c = simp (c .values8 .ensures, c .before .before .b5 .given .1)
 
 pub of-bound-spec : {M : Type 1} → statement M
 of-bound-spec =
@@ -127,6 +139,9 @@ of-bound-spec =
     enum-known-b-3
     at-step-requires-2
     enum-known-b-4
+    basis-number-requires
+    at-step-requires-3
+    enum-known-b-5
     values-requires-8
     returns
     returns-2
@@ -138,4 +153,5 @@ of-bound-spec =
     returns-8
     returns-9
     returns-10
-    returns-11)
+    returns-11
+    returns-12)

@@ -2,9 +2,7 @@
 use mir.Syntax.{w32}
 use denote.Ref.{now}
 use Rattle.rules.specs.Channels.{listOf}
-use Rattle.rules.specs.Steps.{stepsOf}
-use Rattle.rules.specs.Bounds.{BoundSays}
-use Rattle.rules.specs.Promises.{Bounds}
+use Rattle.rules.specs.Promises.{Bounds, BoundClaims}
 use Rattle.rules.proofs.Bounded as R
 use Rattle.rules.proofs.Bounded.Laws as R′
 use Rattle.lent.proofs.Params.{number, words, enum-result}
@@ -21,5 +19,5 @@ unfolding code.routine
 bound-spec 𝓤 H 𝓜 𝓖 𝓡 =
     shared-two.meets 1 (number w32) words R.the-row (enum-result R.the-type R′.the-laws tt) core.name
     (λ m all s ws b. Bounds m (listOf all) s (now ws) b)
-    (λ m cs s ws b. Bounds m cs s (now ws) b × BoundSays m cs s (stepsOf (now ws)) b) (λ m cs s ws. lent-bounds m cs s (now ws))
+    (λ m cs s ws b. BoundClaims m cs s (now ws) b) (λ m cs s ws. lent-bounds m cs s (now ws))
     𝓤 H 𝓜 𝓖 𝓡 code.env code.calls-lent·copied core.routine code.calls-machine·bound (core-thm.met 𝓤 H 𝓜 𝓖 𝓡) key.name (code.unfolded 𝓤 H 𝓜 𝓡)

@@ -1,9 +1,7 @@
 -- A thin entry over `machine::run`: the law `One` of crate lent, for lent words. Assumes nothing.
 use denote.Ref.{now}
 use Rattle.rules.specs.Channels.{listOf}
-use Rattle.rules.specs.Steps.{stepsOf}
-use Rattle.rules.specs.Promises.{Runs}
-use Rattle.rules.specs.Waiting.{Demand3OfRun}
+use Rattle.rules.specs.Promises.{Runs, RunClaims}
 use Rattle.rules.proofs.Ran as R
 use Rattle.rules.proofs.Ran.Laws as R′
 use Rattle.lent.proofs.Params.{words, enum-result}
@@ -19,6 +17,6 @@ pub run-spec : {M : Type 1} → stated.statement M
 unfolding code.routine
 run-spec 𝓤 H 𝓜 𝓖 𝓡 =
     one.meets 1 words R.the-row (enum-result R.the-type R′.the-laws tt) core.name
-    (λ m all ws r m'. Runs m (listOf all) (now ws) r m') (λ m cs ws r m'. Runs m cs (now ws) r m' × Demand3OfRun m cs (stepsOf (now ws)) m')
+    (λ m all ws r m'. Runs m (listOf all) (now ws) r m') (λ m cs ws r m'. RunClaims m cs (now ws) r m')
     (λ m cs ws. lent-runs m cs (now ws))
     𝓤 H 𝓜 𝓖 𝓡 code.env code.calls-lent·copied core.routine code.calls-machine·run (core-thm.met 𝓤 H 𝓜 𝓖 𝓡) key.name (code.unfolded 𝓤 H 𝓜 𝓡)

@@ -2,9 +2,7 @@
 use mir.Syntax.{w32}
 use denote.Ref.{now}
 use Rattle.rules.specs.Channels.{listOf}
-use Rattle.rules.specs.Steps.{stepsOf}
-use Rattle.rules.specs.Promises.{Waits}
-use Rattle.rules.specs.Waiting.{Demand3OfWait}
+use Rattle.rules.specs.Promises.{Waits, WaitClaims}
 use Rattle.rules.proofs.Waited as R
 use Rattle.rules.proofs.Waited.Laws as R′
 use Rattle.lent.proofs.Params.{number, words, enum-result}
@@ -21,5 +19,5 @@ unfolding code.routine
 wait-spec 𝓤 H 𝓜 𝓖 𝓡 =
     two.meets 1 (number w32) words R.the-row (enum-result R.the-type R′.the-laws tt) core.name
     (λ m all s ws w m'. Waits m (listOf all) s (now ws) w m')
-    (λ m cs s ws w m'. Waits m cs s (now ws) w m' × Demand3OfWait m cs s (stepsOf (now ws)) w m') (λ m cs s ws. lent-waits m cs s (now ws))
+    (λ m cs s ws w m'. WaitClaims m cs s (now ws) w m') (λ m cs s ws. lent-waits m cs s (now ws))
     𝓤 H 𝓜 𝓖 𝓡 code.env code.calls-lent·copied core.routine code.calls-machine·wait (core-thm.met 𝓤 H 𝓜 𝓖 𝓡) key.name (code.unfolded 𝓤 H 𝓜 𝓡)

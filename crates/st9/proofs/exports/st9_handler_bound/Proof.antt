@@ -1,0 +1,27 @@
+-- What `machine::handler_bound` promises of the copy, said of the bytes and told in numbers.
+use borrow.Author.Needs.{needs}
+use Rattle.st9.proofs.PackedPromises.{packed-handler-bounds}
+use Rattle.st9.proofs.exports.st9_handler_bound.Statement.{statement}
+use Rattle.st9.proofs.exports.st9_handler_bound.Tie as tie
+
+unpacked-requires : tie.Need-unpacked-requires
+unpacked-requires c κs = search needs
+
+handler-bound-requires : tie.Need-handler-bound-requires
+handler-bound-requires c κs = search needs
+
+of-bound-requires : tie.Need-of-bound-requires
+of-bound-requires c κs = search needs
+
+returns : tie.Need-returns
+returns c =
+    let p = c .before in
+    let u = p .before .unpacked in
+    let a = p .before .before .before .before .before .args in (
+      p .handler-bound .result,
+      c .of-bound .ensures,
+      packed-handler-bounds (a .image .now) (a .channels .now) (u .result) (u .ensures) (a .source) (a .words .now) (p .handler-bound .result) (p .handler-bound .ensures),
+    )
+
+pub st9-handler-bound-spec : {M : Type 1} → statement M
+st9-handler-bound-spec = tie.close (tie.spec unpacked-requires handler-bound-requires of-bound-requires returns)
