@@ -1,6 +1,6 @@
 //! The plain model's answers in the flat form of `include/st9.h`.
 
-use model::{Answer, Bounded, Effect, Ran, Refusal, Waited};
+use model::{Answer, Basis, Bounded, Effect, Ran, Refusal, Waited};
 use st9::sys;
 
 /// An answer of a kind whose fields are all 0.
@@ -94,7 +94,20 @@ pub fn wait(answer: Waited) -> sys::Answer {
     }
 }
 
-/// The answer of a bound.
+/// The number of what a write changed.
+fn basis(basis: Basis) -> u64 {
+    match basis {
+        Basis::Pending => sys::CHANGED_PENDING,
+        Basis::Mode => sys::CHANGED_MODE,
+        Basis::CurrentLevel => sys::CHANGED_CURRENT_LEVEL,
+        Basis::TopLevel => sys::CHANGED_TOP_LEVEL,
+        Basis::Mask => sys::CHANGED_MASK,
+        Basis::DmaEnable => sys::CHANGED_DMA_ENABLE,
+        Basis::Level => sys::CHANGED_LEVEL,
+    }
+}
+
+/// The answer of either bound.
 pub fn bound(answer: Bounded) -> sys::Answer {
     match answer {
         Bounded::Refused(refusal) => refused_call(refusal),
@@ -107,6 +120,9 @@ pub fn bound(answer: Bounded) -> sys::Answer {
         Bounded::LevelNotAbove => of_kind(sys::LEVEL_NOT_ABOVE),
         Bounded::OtherStep { index } => with_steps(sys::OTHER_STEP, index),
         Bounded::InterruptsDisabled { index } => with_steps(sys::INTERRUPTS_DISABLED, index),
+        Bounded::Changed { basis: changed, index } => {
+            sys::Answer { first: basis(changed), ..with_steps(sys::CHANGED, index) }
+        }
         Bounded::Within { outranking, triggers, bound } => sys::Answer {
             second: triggers as u64,
             third: bound as u64,

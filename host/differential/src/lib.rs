@@ -4,15 +4,22 @@
 //! `include/st9.h` field by field and the images whole, and sees that the channel bytes, the words and the memory around every lent part stay as
 //! they were. [`generate`] makes the images, lists and steps from fixed seeds; [`Tally`] counts what was answered. [`Plain`] is the model for scenarios.
 
+mod account;
 pub mod flat;
 pub mod generate;
 mod lent;
 mod pair;
+pub mod places;
 mod plain;
 mod random;
+mod start;
 mod tally;
+mod waited;
 
+pub use account::Account;
 pub use pair::Pair;
 pub use plain::Plain;
 pub use random::Random;
+pub use start::Start;
 pub use tally::{Call, Tally};
+pub use waited::{Alone, Calls, Claim, Waited};

@@ -2,7 +2,7 @@
 
 use crate::flat;
 use crate::lent::Lent;
-use model::{Channel, Refusal, IMAGE_LENGTH};
+use model::{Bounded, Channel, Refusal, IMAGE_LENGTH};
 use st9::sys;
 
 /// The byte of the guards.
@@ -10,6 +10,11 @@ const GUARD: u8 = 0xA5;
 
 /// The bytes of a record.
 const RECORD: usize = 7;
+
+/// A bound of the plain model, and as it is exported.
+type PlainBound = fn(&[u8], &[Channel], u32, &[u64]) -> Bounded;
+type ExportedBound =
+    unsafe extern "C" fn(*const u8, usize, *const u8, usize, u32, *const u64, usize) -> sys::Answer;
 
 /// An image and a channel list on both sides. Each call is made on both and panics where they differ.
 pub struct Pair {
@@ -111,16 +116,37 @@ impl Pair {
         self.compare(&format!("wait for {source}"), words, expected, given)
     }
 
-    /// A bound on both. The plain image can't change, so the comparison sees that the lent one doesn't.
+    /// Demand 3's bound on both.
     pub fn bound(&mut self, source: u32, words: &[u64]) -> sys::Answer {
+        self.bounded("bound", (model::bound, sys::st9_bound), source, words)
+    }
+
+    /// The handlers' bound on both.
+    pub fn handler_bound(&mut self, source: u32, words: &[u64]) -> sys::Answer {
+        self.bounded(
+            "handlers' bound",
+            (model::handler_bound, sys::st9_handler_bound),
+            source,
+            words,
+        )
+    }
+
+    /// Either bound on both. The plain image can't change, so the comparison sees that the lent one doesn't.
+    fn bounded(
+        &mut self,
+        call: &str,
+        (plain, exported): (PlainBound, ExportedBound),
+        source: u32,
+        words: &[u64],
+    ) -> sys::Answer {
         let expected = match &self.channels {
-            Some(channels) => flat::bound(model::bound(&self.plain_image, channels, source, words)),
+            Some(channels) => flat::bound(plain(&self.plain_image, channels, source, words)),
             None => self.broken_list(),
         };
         let mut lent = Lent::new(words, u64::MAX);
         // SAFETY: as for a step.
         let given = unsafe {
-            sys::st9_bound(
+            exported(
                 self.image.pointer(),
                 self.image.len(),
                 self.list.pointer(),
@@ -131,7 +157,7 @@ impl Pair {
             )
         };
         self.unchanged(words, &lent);
-        self.compare(&format!("bound of {source}"), words, expected, given)
+        self.compare(&format!("{call} of {source}"), words, expected, given)
     }
 
     /// The number of a view on both; where it is 0 the plain view is the sixteen bytes that `st9_view` of `include/st9.h` lends.

@@ -3,7 +3,8 @@
 use model::{Bounded, Ran, Waited};
 use scenario::Model;
 use st9::{
-    Answer, Bound, Channel, Done, Effect, Premise, Refusal, RunError, Source, Step, Wait, WaitError,
+    Answer, Basis, Bound, Channel, Done, Effect, Premise, Refusal, RunError, Source, Step, Wait,
+    WaitError,
 };
 
 /// The crate `model`.
@@ -57,30 +58,24 @@ impl Model for Plain {
         source: Source,
         words: &[u64],
     ) -> Result<Bound, Refusal> {
-        let premise = match model::bound(image, &records(channels), source.0, words) {
-            Bounded::Refused(why) => return Err(refusal(why)),
-            Bounded::Within { outranking, triggers, bound } => {
-                return Ok(Bound::Within {
-                    outranking: outranking as u64,
-                    triggers: triggers as u64,
-                    bound: bound as u64,
-                })
-            }
-            Bounded::Nested => Premise::Nested,
-            Bounded::DmaEnabled => Premise::DmaEnabled,
-            Bounded::TopLevelEnabled => Premise::TopLevelEnabled,
-            Bounded::TopLevelInService => Premise::TopLevelInService,
-            Bounded::NotPending => Premise::NotPending,
-            Bounded::Masked => Premise::Masked,
-            Bounded::LevelNotAbove => Premise::LevelNotAbove,
-            Bounded::OtherStep { index } => Premise::OtherStep { index },
-            Bounded::InterruptsDisabled { index } => Premise::InterruptsDisabled { index },
-        };
-        Ok(Bound::Fails(premise))
+        bounded(model::bound(image, &records(channels), source.0, words))
     }
 
     fn view<'a>(&self, image: &'a [u8], page: u32) -> Result<&'a [u8], Refusal> {
         model::view(image, page).map_err(refusal)
+    }
+}
+
+impl Plain {
+    /// The handlers' bound.
+    pub fn handler_bound(
+        &self,
+        image: &[u8],
+        channels: &[Channel],
+        source: Source,
+        words: &[u64],
+    ) -> Result<Bound, Refusal> {
+        bounded(model::handler_bound(image, &records(channels), source.0, words))
     }
 }
 
@@ -112,6 +107,45 @@ fn answer(plain: model::Answer) -> Result<Answer, Refusal> {
         model::Answer::Reset => Answer::Reset,
         model::Answer::Refused(why) => return Err(refusal(why)),
     })
+}
+
+/// Either bound.
+fn bounded(plain: Bounded) -> Result<Bound, Refusal> {
+    let premise = match plain {
+        Bounded::Refused(why) => return Err(refusal(why)),
+        Bounded::Within { outranking, triggers, bound } => {
+            return Ok(Bound::Within {
+                outranking: outranking as u64,
+                triggers: triggers as u64,
+                bound: bound as u64,
+            })
+        }
+        Bounded::Nested => Premise::Nested,
+        Bounded::DmaEnabled => Premise::DmaEnabled,
+        Bounded::TopLevelEnabled => Premise::TopLevelEnabled,
+        Bounded::TopLevelInService => Premise::TopLevelInService,
+        Bounded::NotPending => Premise::NotPending,
+        Bounded::Masked => Premise::Masked,
+        Bounded::LevelNotAbove => Premise::LevelNotAbove,
+        Bounded::OtherStep { index } => Premise::OtherStep { index },
+        Bounded::InterruptsDisabled { index } => Premise::InterruptsDisabled { index },
+        Bounded::Changed { basis: changed, index } => {
+            Premise::Changed { basis: basis(changed), index }
+        }
+    };
+    Ok(Bound::Fails(premise))
+}
+
+fn basis(plain: model::Basis) -> Basis {
+    match plain {
+        model::Basis::Pending => Basis::Pending,
+        model::Basis::Mode => Basis::Mode,
+        model::Basis::CurrentLevel => Basis::CurrentLevel,
+        model::Basis::TopLevel => Basis::TopLevel,
+        model::Basis::Mask => Basis::Mask,
+        model::Basis::DmaEnable => Basis::DmaEnable,
+        model::Basis::Level => Basis::Level,
+    }
 }
 
 fn effect(plain: model::Effect) -> Effect {

@@ -11,8 +11,15 @@ pub enum Call {
     Run,
     Wait,
     Bound,
+    HandlerBound,
     View,
 }
+
+/// The kinds of answers.
+const KINDS: usize = sys::CHANGED as usize + 1;
+
+/// What a write can change of that which a handlers' bound rests on, numbered from 1.
+const BASES: usize = sys::CHANGED_LEVEL as usize;
 
 /// The kinds that have a refusal's number, and those numbers; every other kind has 0.
 type Refusals = &'static [(u64, &'static [u64])];
@@ -25,6 +32,7 @@ impl Call {
             Call::Run => sys::NO_STEP..=sys::RESET,
             Call::Wait => sys::ENDED..=sys::ACKNOWLEDGED,
             Call::Bound => sys::NESTED..=sys::WITHIN,
+            Call::HandlerBound => sys::NESTED..=sys::CHANGED,
             Call::View => 0..=0,
         }
     }
@@ -35,7 +43,7 @@ impl Call {
             Call::Step => &[(sys::REFUSED, &[1, 2, 3, 4, 5, 6, 7])],
             Call::Run => &[(sys::REFUSED_CALL, &[1, 2]), (sys::REFUSED_STEP, &[3, 4, 5, 6, 7])],
             Call::Wait => &[(sys::REFUSED_CALL, &[1, 2, 4]), (sys::REFUSED_STEP, &[3, 4, 5, 6, 7])],
-            Call::Bound => &[(sys::REFUSED_CALL, &[1, 2, 4])],
+            Call::Bound | Call::HandlerBound => &[(sys::REFUSED_CALL, &[1, 2, 4])],
             Call::View => &[(0, &[1, 3])],
         }
     }
@@ -56,24 +64,27 @@ impl Call {
 pub struct Tally {
     call: Call,
     /// By kind and refusal.
-    answers: [[u64; 8]; 25],
+    answers: [[u64; 8]; KINDS],
     /// The steps that were tried: those done and those refused by their own number.
     pub steps: u64,
     /// Interrupts by source and by level, triggers by their two effects.
     sources: [u64; 20],
     levels: [u64; 7],
     effects: [u64; 9],
+    /// Writes that changed what a handlers' bound rests on, by what they changed.
+    bases: [u64; BASES],
 }
 
 impl Tally {
     pub fn new(call: Call) -> Tally {
         Tally {
             call,
-            answers: [[0; 8]; 25],
+            answers: [[0; 8]; KINDS],
             steps: 0,
             sources: [0; 20],
             levels: [0; 7],
             effects: [0; 9],
+            bases: [0; BASES],
         }
     }
 
@@ -86,6 +97,7 @@ impl Tally {
                 self.levels[answer.second as usize] += 1;
             }
             sys::TRIGGERED => self.effects[(3 * answer.first + answer.second) as usize] += 1,
+            sys::CHANGED => self.bases[answer.first as usize - 1] += 1,
             _ => {}
         }
         self.steps += match (self.call, answer.kind) {
@@ -108,13 +120,14 @@ impl Tally {
 
     /// Panics unless exactly the answers that the call can give were met.
     pub fn assert_all_met(&self) {
-        for kind in 0..25 {
-            for refusal in 0..8 {
-                let met = self.answers[kind as usize][refusal as usize] > 0;
+        for (kind, answers) in (0..).zip(&self.answers) {
+            for (refusal, count) in (0..).zip(answers) {
                 let possible = self.call.can_give(kind, refusal);
-                assert_eq!(met, possible, "{:?}: kind {kind}, refusal {refusal}", self.call);
+                assert_eq!(*count > 0, possible, "{:?}: kind {kind}, refusal {refusal}", self.call);
             }
         }
+        let changes = self.call == Call::HandlerBound;
+        assert!(self.bases.iter().all(|count| (*count > 0) == changes), "{self}");
     }
 
     /// Panics unless every source, every level below 7 and every pair of effects was met.
@@ -143,6 +156,9 @@ impl std::fmt::Display for Tally {
             writeln!(out, "  interrupts by source {:?}", self.sources)?;
             writeln!(out, "  interrupts by level {:?}", self.levels)?;
             writeln!(out, "  triggers by effects {:?}", self.effects)?;
+        }
+        if self.call == Call::HandlerBound {
+            writeln!(out, "  writes by what they changed {:?}", self.bases)?;
         }
         Ok(())
     }

@@ -3,62 +3,13 @@
 //! What each call can answer is said in `differential::Call`; every such answer is asserted to be met, and no other.
 
 use differential::generate::{self, Flavour};
-use differential::{Call, Pair, Random, Tally};
-use model::Channel;
+use differential::{Call, Claim, Pair, Random, Start, Tally, Waited};
 use st9::sys;
 
 /// The steps that are tried at least, in single steps and in runs: three million in all.
 const SINGLE_STEPS: u64 = 1_800_000;
 const RUN_STEPS: u64 = 1_200_000;
 const _: () = assert!(SINGLE_STEPS + RUN_STEPS >= 2_000_000);
-
-/// An image and the bytes of a list, and the records that steps are made for.
-struct Start {
-    image: Vec<u8>,
-    list: Vec<u8>,
-    channels: Vec<Channel>,
-}
-
-impl Start {
-    /// Mostly a good image and a good list; one time in sixteen the image is damaged, the list or both.
-    fn any(random: &mut Random) -> Start {
-        let count = random.below(13) as usize;
-        let channels = generate::list(random, count);
-        let mut image = generate::image(random, &channels);
-        let mut list = generate::bytes(&channels);
-        let damage = random.below(48);
-        if matches!(damage, 0 | 2) {
-            image = generate::damaged_image(random);
-        }
-        if matches!(damage, 1 | 2) {
-            list = generate::damaged_bytes(random);
-        }
-        Start { image, list, channels }
-    }
-
-    /// A good list, and an image in which a source waits as demand 3 says; one time in six one premise is broken.
-    fn waiting(random: &mut Random) -> (Start, u32) {
-        let count = random.below(13) as usize;
-        let channels = generate::list(random, count);
-        let source = random.below(8 + count as u64) as u32;
-        let mut image = generate::waiting_image(random, &channels, source);
-        if random.chance(1, 6) {
-            generate::break_premise(random, &mut image, &channels, source);
-        }
-        let list = generate::bytes(&channels);
-        let start = Start { image, list, channels };
-        (start, source)
-    }
-
-    /// Steps of all kinds for the start.
-    fn steps(&self, random: &mut Random, flavour: Flavour, count: usize) -> Vec<u64> {
-        generate::steps(random, &self.image, &self.channels, flavour, count)
-    }
-
-    fn pair(&self, name: String) -> Pair {
-        Pair::new(name, &self.image, &self.list)
-    }
-}
 
 #[test]
 fn steps() {
@@ -132,88 +83,22 @@ fn bounds() {
     }
     let mut waited = Waited::default();
     for number in 0..30_000 {
-        let (start, source) = Start::waiting(&mut random);
+        let (start, source) = Start::nearly_waiting(&mut random);
         let count = random.below(50) as usize;
         let words = generate::list_of_calls(&mut random, &start.channels, count);
         let name = format!("waiting {number}");
-        let answer = start.pair(name.clone()).bound(source, &words);
-        tally.count(answer);
-        if answer.kind == sys::WITHIN {
-            waited.check_report(start.pair(name.clone()), source, &words, answer);
-            waited.check_calls(start.pair(name), source, &words, answer);
+        let bound = start.pair(name.clone()).bound(source, &words);
+        tally.count(bound);
+        if bound.kind == sys::WITHIN {
+            let claim = Claim { source, words: &words, bound };
+            waited.check_report(start.pair(name.clone()), claim);
+            waited.check_calls(start.pair(name), claim);
         }
     }
     println!("{tally}{waited:#?}");
     tally.assert_all_met();
     assert!(tally.of_kind(sys::WITHIN) >= 15_000);
     assert!(waited.at_the_bound > 0 && waited.ended > 0 && waited.refused > 0);
-}
-
-/// What became of the sources that a bound was given for.
-#[derive(Debug, Default)]
-struct Waited {
-    acknowledged: u64,
-    /// Those by the very arbitration of the bound, and of these those with H + E > 0.
-    at_the_bound: u64,
-    at_a_bound_over_one: u64,
-    ended: u64,
-    refused: u64,
-    /// Lists followed call by call, refused ones passed over, and those acknowledged.
-    followed: u64,
-    followed_to_acknowledgement: u64,
-}
-
-impl Waited {
-    /// The wait report is acknowledged within the bound, or made at most H + E arbitrations with the source still pending.
-    fn check_report(&mut self, mut pair: Pair, source: u32, words: &[u64], bound: sys::Answer) {
-        let list = pair.channels().to_vec();
-        let answer = pair.wait(source, words);
-        let arbitrations = answer.first;
-        match answer.kind {
-            sys::ACKNOWLEDGED => {
-                assert!(arbitrations <= bound.third);
-                self.acknowledged += 1;
-                self.at_the_bound += u64::from(arbitrations == bound.third);
-                self.at_a_bound_over_one +=
-                    u64::from(arbitrations == bound.third && bound.third > 1);
-            }
-            kind => {
-                assert!(arbitrations <= bound.first + bound.second);
-                assert!(is_pending(pair.image(), &list, source));
-                self.ended += u64::from(kind == sys::ENDED);
-                self.refused += u64::from(kind == sys::REFUSED_STEP);
-            }
-        }
-    }
-
-    /// Demand 3 itself, call by call: the source is pending after every call before its acknowledgement, which is by arbitration H + E + 1 if the list has
-    /// that many.
-    fn check_calls(&mut self, mut pair: Pair, source: u32, words: &[u64], bound: sys::Answer) {
-        let list = pair.channels().to_vec();
-        let mut arbitrations = 0;
-        self.followed += 1;
-        for word in words {
-            let answer = pair.step(*word);
-            if matches!(answer.kind, sys::NOTHING | sys::INTERRUPT) {
-                arbitrations += 1;
-            }
-            if answer.kind == sys::INTERRUPT && answer.first == u64::from(source) {
-                assert!(arbitrations <= bound.third);
-                self.followed_to_acknowledgement += 1;
-                return;
-            }
-            assert!(is_pending(pair.image(), &list, source));
-            assert!(arbitrations < bound.third);
-        }
-    }
-}
-
-/// Whether a source's EIPR or IP bit is 1.
-fn is_pending(image: &[u8], channels: &[Channel], source: u32) -> bool {
-    match channels.get((source as usize).wrapping_sub(8)) {
-        Some(channel) => image[model::paged(channel.page, channel.idcr)] & 0x20 != 0,
-        None => image[243] >> source & 1 == 1,
-    }
 }
 
 #[test]

@@ -71,6 +71,13 @@ pub enum Answer {
     Refused(Refusal),
 }
 
+impl Answer {
+    /// Whether it is of an arbitration that acknowledged this source by an interrupt.
+    pub(crate) fn acknowledges(self, awaited: u8) -> bool {
+        matches!(self, Answer::Interrupt { source, .. } if source == awaited)
+    }
+}
+
 /// The answer of a run.
 #[derive(Clone, Copy, Debug, PartialEq, Eq, Hash)]
 pub enum Ran {
@@ -97,7 +104,26 @@ pub enum Waited {
     RefusedStep { refusal: Refusal, index: usize, arbitrations: usize },
 }
 
-/// The answer of a bound: the first premise of demand 3 that fails, or the bound.
+/// What a write of a handler may not change; of several that it changes the first is answered.
+#[derive(Clone, Copy, Debug, PartialEq, Eq, Hash)]
+pub enum Basis {
+    /// Our pending bit, which was 1.
+    Pending,
+    /// IAM.
+    Mode,
+    /// CPL.
+    CurrentLevel,
+    /// TLI or TLNM.
+    TopLevel,
+    /// Any source's.
+    Mask,
+    /// Any record's DM.
+    DmaEnable,
+    /// Any source's.
+    Level,
+}
+
+/// The answer of either bound: the first premise that fails, or the bound.
 #[derive(Clone, Copy, Debug, PartialEq, Eq, Hash)]
 pub enum Bounded {
     Refused(Refusal),
@@ -113,12 +139,17 @@ pub enum Bounded {
     Masked,
     /// The source's level number is not strictly below CPL.
     LevelNotAbove,
-    /// The first step that is neither refused nor a trigger, arbitration or return.
+    /// The first step that is neither refused nor a trigger, arbitration or return; in handlers a reset.
     OtherStep {
         index: usize,
     },
     /// The first arbitration that gets IEN = 0.
     InterruptsDisabled {
+        index: usize,
+    },
+    /// In handlers: the first write that changes what the bound rests on.
+    Changed {
+        basis: Basis,
         index: usize,
     },
     /// All premises hold: H, E and H + E + 1.

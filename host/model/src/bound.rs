@@ -2,32 +2,65 @@
 
 use crate::channels::{check_source, source, source_count};
 use crate::image::{current_level, has, in_service, Image, CICR, DM, IAM, IEN, NICR, TLI, TLNM};
-use crate::steps::{admit, perform, Step};
+use crate::steps::{admit, attempt, Step};
 use crate::triggers::Trigger;
 use crate::{Answer, Bounded, Channel, Effect};
 
-/// The bound of a source over the steps, or the first premise that fails. The image is only read: the steps are followed on a copy.
+/// The bound of a source over the steps, or the first premise that fails. The image is only read.
 pub fn bound(image: &[u8], channels: &[Channel], named: u32, words: &[u64]) -> Bounded {
-    let mut copy = image.to_vec();
-    let image = match admit(&mut copy, channels) {
-        Ok(image) => image,
-        Err(refusal) => return Bounded::Refused(refusal),
+    bounded(image, channels, named, |start| count_triggers(start, channels, words))
+}
+
+/// The bound with the E that `count` finds in the steps, where the start meets the premises.
+pub(crate) fn bounded(
+    image: &[u8],
+    channels: &[Channel],
+    named: u32,
+    count: impl FnOnce(Start) -> Result<usize, Bounded>,
+) -> Bounded {
+    let within = |start: Start| {
+        let outranking = start.pending;
+        let triggers = count(start)?;
+        Ok(Bounded::Within { outranking, triggers, bound: outranking + triggers + 1 })
     };
-    let ours = match check_source(channels, named) {
-        Ok(ours) => ours,
-        Err(refusal) => return Bounded::Refused(refusal),
-    };
-    if let Some(failed) = failed_at_start(image, channels, ours) {
-        return failed;
+    Start::of(image, channels, named).and_then(within).unwrap_or_else(|failed| failed)
+}
+
+/// A start that meets the premises.
+pub(crate) struct Start {
+    /// A copy, on which the steps are followed.
+    pub image: Image,
+    pub ours: u8,
+    /// The unmasked sources that outrank ours, a bit a source.
+    pub outranking: u32,
+    /// H: how many of them are pending.
+    pending: usize,
+}
+
+impl Start {
+    /// Fails with the refusal, else with the first premise that does.
+    fn of(image: &[u8], channels: &[Channel], named: u32) -> Result<Start, Bounded> {
+        let mut copy = image.to_vec();
+        let image = *admit(&mut copy, channels).map_err(Bounded::Refused)?;
+        let ours = check_source(channels, named).map_err(Bounded::Refused)?;
+        if let Some(failed) = failed_at_start(&image, channels, ours) {
+            return Err(failed);
+        }
+        let mut start = Start { image, ours, outranking: 0, pending: 0 };
+        start.gather_outranking(channels);
+        Ok(start)
     }
-    let outranking = Outranking::of(image, channels, ours);
-    match follow(image, channels, outranking.unmasked, words) {
-        Err(failed) => failed,
-        Ok(triggers) => Bounded::Within {
-            outranking: outranking.pending,
-            triggers,
-            bound: outranking.pending + triggers + 1,
-        },
+
+    /// One source outranks another if its level number is smaller or, at equal level, its source number is.
+    fn gather_outranking(&mut self, channels: &[Channel]) {
+        let our_level = source(&self.image, channels, self.ours).level;
+        for number in 0..source_count(channels) as u8 {
+            let other = source(&self.image, channels, number);
+            if other.unmasked && (other.level, number) < (our_level, self.ours) {
+                self.outranking |= 1 << number;
+                self.pending += usize::from(other.pending);
+            }
+        }
     }
 }
 
@@ -54,51 +87,20 @@ fn failed_at_start(image: &Image, channels: &[Channel], ours: u8) -> Option<Boun
     }
 }
 
-/// The sources that outrank ours at the start.
-struct Outranking {
-    /// The unmasked ones, a bit a source.
-    unmasked: u32,
-    /// H: how many of them are pending.
-    pending: usize,
-}
-
-impl Outranking {
-    /// One source outranks another if its level number is smaller or, at equal level, its source number is.
-    fn of(image: &Image, channels: &[Channel], ours: u8) -> Outranking {
-        let our_level = source(image, channels, ours).level;
-        let mut outranking = Outranking { unmasked: 0, pending: 0 };
-        for number in 0..source_count(channels) as u8 {
-            let other = source(image, channels, number);
-            if other.unmasked && (other.level, number) < (our_level, ours) {
-                outranking.unmasked |= 1 << number;
-                outranking.pending += usize::from(other.pending);
-            }
-        }
-        outranking
-    }
-}
-
-/// Follows the list to its end and counts E, the triggers that selected one of the `counted` sources. Fails at the first step of another kind,
-/// else at the first arbitration with IEN = 0. Refused steps are passed over.
-fn follow(
-    image: &mut Image,
-    channels: &[Channel],
-    counted: u32,
-    words: &[u64],
-) -> Result<usize, Bounded> {
+/// Follows the list to its end and counts E, the triggers of outranking sources. Fails at the first step of another kind, else at the first
+/// arbitration with IEN = 0. Refused steps are passed over.
+fn count_triggers(start: Start, channels: &[Channel], words: &[u64]) -> Result<usize, Bounded> {
+    let Start { mut image, outranking, .. } = start;
     let mut triggers = 0;
     let mut disabled = None;
     for (index, &word) in words.iter().enumerate() {
-        let enabled = has(image, CICR, IEN);
-        let Ok(step) = Step::decode(word) else {
-            continue;
-        };
-        let Ok(answer) = perform(image, channels, step) else {
+        let enabled = has(&image, CICR, IEN);
+        let Ok((step, answer)) = attempt(&mut image, channels, word) else {
             continue;
         };
         match step {
             Step::Trigger(trigger) => {
-                triggers += usize::from(selects(trigger, answer, counted));
+                triggers += usize::from(selects(trigger, answer, outranking));
             }
             Step::Arbitrate if !enabled => {
                 disabled = disabled.or(Some(Bounded::InterruptsDisabled { index }));
@@ -113,7 +115,7 @@ fn follow(
 }
 
 /// Whether a trigger that was done selected the pending bit of a counted source, raised or merged.
-fn selects(trigger: Trigger, answer: Answer, counted: u32) -> bool {
+pub(crate) fn selects(trigger: Trigger, answer: Answer, counted: u32) -> bool {
     let is_counted = trigger.source().is_some_and(|k| counted >> k & 1 == 1);
     let is_selected = match answer {
         Answer::Triggered { maskable, .. } => maskable != Effect::NotSelected,

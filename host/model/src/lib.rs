@@ -11,15 +11,17 @@ mod arbitration;
 mod bound;
 mod channels;
 mod dma;
+mod handler;
 mod image;
 mod registers;
 mod steps;
 mod triggers;
 pub mod word;
 
-pub use answers::{Answer, Bounded, Effect, Ran, Refusal, Waited};
+pub use answers::{Answer, Basis, Bounded, Effect, Ran, Refusal, Waited};
 pub use bound::bound;
 pub use channels::{Channel, MOST_CHANNELS};
+pub use handler::handler_bound;
 pub use image::{paged, IMAGE_LENGTH, MARK};
 pub use registers::view;
 pub use steps::{run, step, wait};

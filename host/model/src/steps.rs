@@ -57,11 +57,7 @@ pub(crate) fn admit<'a>(
 }
 
 /// Performs a step on an image and a list that are good. A refused one changes nothing.
-pub(crate) fn perform(
-    image: &mut Image,
-    channels: &[Channel],
-    step: Step,
-) -> Result<Answer, Refusal> {
+fn perform(image: &mut Image, channels: &[Channel], step: Step) -> Result<Answer, Refusal> {
     match step {
         Step::Read { register } => read(image, channels, register),
         Step::Write { register, value } => write(image, channels, register, value),
@@ -78,11 +74,22 @@ pub(crate) fn perform(
     }
 }
 
+/// Performs the step of a word likewise, and says which it was.
+pub(crate) fn attempt(
+    image: &mut Image,
+    channels: &[Channel],
+    word: u64,
+) -> Result<(Step, Answer), Refusal> {
+    let step = Step::decode(word)?;
+    let answer = perform(image, channels, step)?;
+    Ok((step, answer))
+}
+
 /// One step.
 pub fn step(image: &mut [u8], channels: &[Channel], word: u64) -> Answer {
     admit(image, channels)
-        .and_then(|image| perform(image, channels, Step::decode(word)?))
-        .unwrap_or_else(Answer::Refused)
+        .and_then(|image| attempt(image, channels, word))
+        .map_or_else(Answer::Refused, |(_, answer)| answer)
 }
 
 /// The steps in order, up to the first that is refused.
@@ -93,8 +100,8 @@ pub fn run(image: &mut [u8], channels: &[Channel], words: &[u64]) -> Ran {
     };
     let mut last = None;
     for (index, &word) in words.iter().enumerate() {
-        match Step::decode(word).and_then(|step| perform(image, channels, step)) {
-            Ok(answer) => last = Some(answer),
+        match attempt(image, channels, word) {
+            Ok((_, answer)) => last = Some(answer),
             Err(refusal) => return Ran::RefusedStep { refusal, index },
         }
     }
@@ -116,14 +123,10 @@ pub fn wait(image: &mut [u8], channels: &[Channel], source: u32, words: &[u64]) 
     };
     let mut arbitrations = 0;
     for (index, &word) in words.iter().enumerate() {
-        let done = Step::decode(word).and_then(|step| {
-            let answer = perform(image, channels, step)?;
-            Ok((step, answer))
-        });
-        match done {
+        match attempt(image, channels, word) {
             Ok((Step::Arbitrate, answer)) => {
                 arbitrations += 1;
-                if matches!(answer, Answer::Interrupt { source, .. } if source == awaited) {
+                if answer.acknowledges(awaited) {
                     return Waited::Acknowledged { arbitrations };
                 }
             }

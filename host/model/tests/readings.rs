@@ -380,13 +380,12 @@ fn waiting() -> Vec<u8> {
     image(&[(CICR, 0x97), (EIPR, 0x09), (EIMR, 0x0F), (EIPLR, 0x00)])
 }
 
+fn within(outranking: usize, triggers: usize) -> Bounded {
+    Bounded::Within { outranking, triggers, bound: outranking + triggers + 1 }
+}
+
 #[test]
 fn g_bounds() {
-    let within = |outranking, triggers| Bounded::Within {
-        outranking,
-        triggers,
-        bound: outranking + triggers + 1,
-    };
     let bounded = |words: &[u64]| bound(&waiting(), &[RECORD], 3, words);
     assert_eq!(bounded(&[]), within(1, 0));
     // E counts after the acknowledgement, merged triggers and neither masked, lower nor refused ones.
@@ -409,6 +408,7 @@ fn g_bounds() {
     assert_eq!(bounded(&other), Bounded::OtherStep { index: 2 });
 }
 
+/// Those about the start are the same for both bounds.
 #[test]
 fn g_premises_in_order() {
     let mut image = waiting();
@@ -417,7 +417,7 @@ fn g_premises_in_order() {
     image[EIMR] = 0;
     image[MARK] = 5;
     image[paged(9, 240)] = 0x10;
-    let bounded = |image: &[u8]| bound(image, &[RECORD], 3, &[word::reset()]);
+    let bounded = |image: &[u8]| both_bounds(image, &[RECORD], 3, &[word::reset()]);
     assert_eq!(bounded(&image), Bounded::Nested);
     image[CICR] = 0x31;
     assert_eq!(bounded(&image), Bounded::DmaEnabled);
@@ -436,7 +436,20 @@ fn g_premises_in_order() {
     assert_eq!(bounded(&image), Bounded::LevelNotAbove);
     image[CICR] = 0x12;
     assert_eq!(bounded(&image), Bounded::OtherStep { index: 0 });
-    assert_eq!(bound(&image, &[RECORD], 9, &[]), Bounded::Refused(Refusal::BadNumber));
+    let refused = |image: &[u8], channels: &[Channel], source, refusal| {
+        assert_eq!(both_bounds(image, channels, source, &[]), Bounded::Refused(refusal));
+    };
+    refused(&image, &[RECORD], 9, Refusal::BadNumber);
+    refused(&image, &[RECORD], 256 + 3, Refusal::BadNumber);
+    refused(&image, &[RECORD, RECORD], 10, Refusal::BadList);
+    refused(&image[1..], &[RECORD, RECORD], 10, Refusal::BadLength);
+}
+
+/// The answer of both bounds, which is the same.
+fn both_bounds(image: &[u8], channels: &[Channel], source: u32, words: &[u64]) -> Bounded {
+    let answer = bound(image, channels, source, words);
+    assert_eq!(handler_bound(image, channels, source, words), answer);
+    answer
 }
 
 #[test]
@@ -448,4 +461,239 @@ fn g5_watchdog_is_a_trigger_of_source_zero() {
         let bounded = bound(&image, &[], 3, &[word::watchdog(), word::pin_edge(0, 0)]);
         assert_eq!(bounded, Bounded::Within { outranking: 1, triggers, bound: 2 + triggers });
     }
+}
+
+/// The handlers' bound of INTB1, on page 0.
+fn handled(words: &[u64]) -> Bounded {
+    handler_bound(&waiting(), &[RECORD], 3, words)
+}
+
+fn changed(basis: Basis, index: usize) -> Bounded {
+    Bounded::Changed { basis, index }
+}
+
+#[test]
+fn h_handlers_may_read_and_write() {
+    assert_eq!(handled(&[]), within(1, 0));
+    let handler = [
+        word::read(243),
+        word::write(243, 0x08),
+        word::return_from(),
+        word::read(230),
+        word::arbitrate(),
+    ];
+    assert_eq!(handled(&handler), within(1, 0));
+    assert_eq!(bound(&waiting(), &[RECORD], 3, &handler), Bounded::OtherStep { index: 0 });
+}
+
+/// E counts the bits of outranking unmasked sources that a write raises from 0, not the writes.
+#[test]
+fn h_bits_that_writes_raise() {
+    let eipr = |value| word::write(243, value);
+    assert_eq!(handled(&[eipr(0x0D)]), within(1, 1));
+    assert_eq!(handled(&[eipr(0x0F)]), within(1, 2));
+    assert_eq!(handled(&[eipr(0x0F), eipr(0x0F)]), within(1, 2));
+    // One that was pending, erased and raised again: H counts it and E does.
+    assert_eq!(handled(&[eipr(0x08), eipr(0x09)]), within(1, 1));
+    assert_eq!(handled(&[eipr(0x0F), eipr(0x08), eipr(0x0F)]), within(1, 5));
+    // Masked ones.
+    assert_eq!(handled(&[eipr(0xF9)]), within(1, 0));
+    // INTC1 is unmasked at the same level, but after INTB1.
+    let mut lower = waiting();
+    lower[EIMR] = 0x2F;
+    assert_eq!(handler_bound(&lower, &[], 3, &[eipr(0x29)]), within(1, 0));
+}
+
+#[test]
+fn h_bits_that_writes_of_idcr_raise() {
+    let words = [
+        word::write(234, 0x24),
+        word::write(240, 0x28),
+        word::write(240, 0x08),
+        word::write(240, 0xE8),
+        word::write(240, 0x28),
+    ];
+    for (idcr, events) in [(0x08, 2), (0x28, 1)] {
+        let mut image = waiting();
+        image[paged(9, 240)] = idcr;
+        let outranking = 1 + usize::from(idcr >> 5);
+        assert_eq!(handler_bound(&image, &[RECORD], 3, &words), within(outranking, events));
+    }
+    // A masked record, and one at level 1, which comes after INTB1.
+    for idcr in [0x00, 0x09] {
+        let mut image = waiting();
+        image[paged(9, 240)] = idcr;
+        let words = [word::write(234, 0x24), word::write(240, 0x20 | idcr)];
+        assert_eq!(handler_bound(&image, &[RECORD], 3, &words), within(1, 0));
+    }
+}
+
+#[test]
+fn h_triggers_count_as_in_a_bound() {
+    let [raised, merged] = [word::pin_edge(2, 0); 2];
+    assert_eq!(handled(&[raised, merged]), within(1, 2));
+    assert_eq!(handled(&[word::write(243, 0x0D), merged]), within(1, 2));
+    let none = [word::pin_edge(2, 1), word::pin_edge(4, 0), word::pin_edge(3, 0), word::request(0)];
+    assert_eq!(handled(&none), within(1, 0));
+    // Which edge selects is looked at when the edge comes.
+    assert_eq!(handled(&[word::write(242, 0x04), word::pin_edge(2, 1)]), within(1, 1));
+    let iaos = [word::watchdog(), word::write(246, 0x02), word::watchdog(), word::pin_edge(0, 0)];
+    assert_eq!(handled(&iaos), within(1, 2));
+}
+
+/// E is counted up to the acknowledgement, and no step after it is looked at.
+#[test]
+fn h_only_up_to_the_acknowledgement() {
+    let acknowledged = [
+        word::pin_edge(1, 0),
+        word::arbitrate(),
+        word::return_from(),
+        word::write(243, 0x0A),
+        word::arbitrate(),
+        word::return_from(),
+        word::arbitrate(),
+    ];
+    assert_eq!(handled(&acknowledged), within(1, 1));
+    let later = [
+        word::pin_edge(2, 0),
+        word::write(243, 0x07),
+        word::arbitrate(),
+        word::write(230, 0x3F),
+        word::write(244, 0x00),
+        word::reset(),
+    ];
+    for step in later {
+        assert_eq!(handled(&[&acknowledged[..], &[step]].concat()), within(1, 1));
+    }
+    // Without an acknowledgement the whole list counts.
+    let unserved = [&acknowledged[..6], &later[..2]].concat();
+    assert_eq!(handled(&unserved), changed(Basis::Pending, 7));
+    assert_eq!(handled(&unserved[..7]), within(1, 2));
+}
+
+#[test]
+fn h_interrupts_disabled_in_a_handler() {
+    let arbitrations = [word::arbitrate(); 2];
+    assert_eq!(handled(&arbitrations), Bounded::InterruptsDisabled { index: 1 });
+    let enabled = [word::arbitrate(), word::write(230, 0x97), word::arbitrate()];
+    assert_eq!(handled(&enabled), within(1, 0));
+    let disabled = [word::write(230, 0x87), word::arbitrate(), word::reset()];
+    assert_eq!(handled(&disabled), Bounded::InterruptsDisabled { index: 1 });
+    let mut start = waiting();
+    start[CICR] = 0x87;
+    let words = [word::write(243, 0x0F), word::return_from(), word::arbitrate()];
+    assert_eq!(handler_bound(&start, &[], 3, &words), within(1, 2));
+}
+
+/// The step that comes first, unlike in a bound.
+#[test]
+fn h_the_first_step_that_breaks_a_premise() {
+    let other = Bounded::OtherStep { index: 2 };
+    let disabled = Bounded::InterruptsDisabled { index: 1 };
+    let words = [word::arbitrate(), word::arbitrate(), word::reset()];
+    assert_eq!(bound(&waiting(), &[], 3, &words), other);
+    assert_eq!(handled(&words), disabled);
+    let words = [word::read(0), word::write(0, 0), word::reset(), word::write(243, 0)];
+    assert_eq!(handled(&words), other);
+    let words = [word::arbitrate(), word::write(243, 0), word::arbitrate(), word::reset()];
+    assert_eq!(handled(&words), changed(Basis::Pending, 1));
+}
+
+/// Refused steps change nothing and count nowhere.
+#[test]
+fn h_refused_steps_are_passed_over() {
+    let words = [
+        word::write(240, 0x00),
+        word::write(256, 0x00),
+        word::read(248),
+        word::pin_edge(8, 0),
+        word::pin_edge(2, 2),
+        word::request(1),
+        word::word(2, 4, 2, 0),
+        word::word(6, 0, 0, 0),
+    ];
+    assert_eq!(handled(&words), within(1, 0));
+    let last = [&words[..], &[word::write(243, 0x00)]].concat();
+    assert_eq!(handled(&last), changed(Basis::Pending, 8));
+}
+
+#[test]
+fn h_each_basis() {
+    use Basis::*;
+    let after = |register, value| handled(&[word::read(register), word::write(register, value)]);
+    for (register, value, basis) in [
+        (243, 0x01, Pending),
+        (243, 0xF7, Pending),
+        (230, 0x9F, Mode),
+        (230, 0x96, CurrentLevel),
+        (230, 0x90, CurrentLevel),
+        (230, 0xB7, TopLevel),
+        (247, 0x80, TopLevel),
+        (244, 0x8F, Mask),
+        (244, 0x07, Mask),
+        (245, 0x40, Level),
+        (245, 0x01, Level),
+    ] {
+        assert_eq!(after(register, value), changed(basis, 1), "R{register} {value:02X}h");
+    }
+    let record = |value| handled(&[word::write(234, 0x24), word::write(240, value)]);
+    for (value, basis) in [(0x08, Mask), (0x10, DmaEnable), (0x04, Level)] {
+        assert_eq!(record(value), changed(basis, 1), "IDCR {value:02X}h");
+    }
+}
+
+/// Where one write changes several the first is answered; those of a record's own source with its IP too.
+#[test]
+fn h_the_order_of_the_bases() {
+    use Basis::*;
+    for (value, basis) in [(0x2A, Mode), (0x30, CurrentLevel), (0x37, TopLevel)] {
+        assert_eq!(handled(&[word::write(230, value)]), changed(basis, 0), "CICR {value:02X}h");
+    }
+    let mut image = waiting();
+    image[PPR] = 0x24;
+    image[paged(9, 240)] = 0x2B;
+    let ours = |value| handler_bound(&image, &[RECORD], 8, &[word::write(240, value)]);
+    for (value, basis) in
+        [(0x14, Pending), (0x0B, Pending), (0x34, Mask), (0x3C, DmaEnable), (0x2C, Level)]
+    {
+        assert_eq!(ours(value), changed(basis, 0), "IDCR {value:02X}h");
+    }
+    // H: INTA0 and INTB1 pending.
+    assert_eq!(ours(0xEB), within(2, 0));
+}
+
+/// Writes that leave all of it, whatever else they change.
+#[test]
+fn h_harmless_writes() {
+    let harmless = |page: u8, register: u32, value: u8| {
+        let words = [word::write(234, 4 * page), word::write(register, value)];
+        assert_eq!(handled(&words), within(1, 0), "page {page} R{register} {value:02X}h");
+    };
+    for value in 0..=255 {
+        for register in (0..240).filter(|register| *register != 230) {
+            harmless(0, register, value);
+        }
+        // CICR with GCEN, TLIP and IEN, EIPR without outranking sources, EITR, EIVR, NICR without TLNM.
+        harmless(0, 230, value & 0xD0 | 0x07);
+        harmless(0, 243, value & 0xF8 | 0x09);
+        harmless(0, 242, value);
+        harmless(0, 246, value);
+        harmless(0, 247, value & 0x7F);
+        // A record's IDCR with IP and absent bits, and its other registers, R243 to R244 among them.
+        harmless(9, 240, value & 0xE0);
+        for register in 241..=244 {
+            harmless(9, register, value);
+        }
+    }
+    harmless(0, 244, 0x0F);
+    harmless(0, 245, 0x00);
+}
+
+/// TLIP alone takes no arbitration: the top level stays disabled.
+#[test]
+fn h_tlip_raised_by_a_write() {
+    let words = [word::write(230, 0xD7), word::arbitrate(), word::return_from(), word::arbitrate()];
+    assert_eq!(handled(&words), within(1, 0));
+    let waited = wait(&mut waiting(), &[RECORD], 3, &words);
+    assert_eq!(waited, Waited::Acknowledged { arbitrations: 2 });
 }

@@ -1,10 +1,12 @@
 //! Images, channel lists and steps, mostly such that something happens.
 
+mod handlers;
 mod images;
 mod lists;
 mod steps;
 mod waiting;
 
+pub use handlers::list_of_handlers;
 pub use images::{damaged_image, image};
 pub use lists::{bytes, damaged_bytes, list};
 pub use steps::{steps, Flavour};

@@ -108,7 +108,7 @@ pub fn list_of_calls(random: &mut Random, channels: &[Channel], count: usize) ->
 }
 
 /// A step that is refused in every image: a bad number, an unknown kind or a register over 255.
-fn refused_step(random: &mut Random, channels: &[Channel]) -> u64 {
+pub(crate) fn refused_step(random: &mut Random, channels: &[Channel]) -> u64 {
     let mut image = [0; IMAGE_LENGTH];
     loop {
         let step = bad_step(random, channels);
