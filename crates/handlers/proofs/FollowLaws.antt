@@ -1,19 +1,26 @@
 -- What a step that is followed breaks and counts, and what the next step does to those that the bound follows. Assumes nothing.
 use mathlib.Core.Path.{_≡_, refl, sym, ap, _∙_, subst}
+use mathlib.Core.Logic.{_≢_}
 use mathlib.Core.Bool.{Bool, true, false, false≢true, cond, not, _&&_, and-false}
 use mathlib.Core.List.{List, []}
 use mathlib.Core.Option.{Option, none, some}
-use Prim.Native.Nat.{ℕ, _+_, _≤_}
+use Prim.Native.Nat.{ℕ, _+_, _≤_, _<_}
 use native.Mathlib.Nat.{add-zero, zero-add, add-assoc}
 use native.Mathlib.Omega.{arith}
+use lib.Dec.{eqb, ltb}
+use lib.ListN.{length}
+use borrow.Author.Tests.{ltb-true, eq-eqb}
 use Rattle.rules.specs.declared.Channel.{Channel}
 use Rattle.rules.specs.declared.Step.{Step}
 use Rattle.rules.specs.declared.Step.the-variants as step
 use Rattle.rules.specs.declared.Answer.{Answer}
+use Rattle.rules.specs.declared.Basis.{Basis}
+use Rattle.rules.specs.declared.Basis.the-variants as basis
 use Rattle.rules.specs.declared.Bounded.{Bounded}
 use Rattle.rules.specs.declared.Bounded.the-variants as bounded
-use Rattle.rules.specs.Image.{Image, State, state, has, IEN}
+use Rattle.rules.specs.Image.{Image, imageLength, State, state, has, CICR, IEN}
 use Rattle.rules.specs.Channels.{mostRecords, listOk}
+use Rattle.rules.specs.Sources.{sources}
 use Rattle.rules.specs.Outcomes.{Outcome, outcome, isRefused}
 use Rattle.rules.specs.Registers.{writeOf}
 use Rattle.rules.specs.Steps.{actOf}
@@ -21,7 +28,9 @@ use Rattle.rules.specs.Runs.{Event, history, until, oneIf, counted, isArbitrati
 use Rattle.rules.specs.Waiting.{rival, H, selectedBy, triggers, triggersOf}
 use Rattle.rules.specs.Handlers.{isWrite, raised, raisedBy, raisedOf, upTo}
 use Rattle.rules.specs.HandlerBounds.{changes, bases, firstChanged, brokenStep, brokenBy, orLater, firstBroken, brokenElse, handlerBoundIn}
-use Rattle.rules.proofs.Bools.{impossible}
+use Rattle.rules.proofs.Bools.{impossible, and-l, and-r}
+use Rattle.rules.proofs.HandlerWrites.{file-leaves}
+use Rattle.rules.proofs.ChangeLaws.{leaves-unchanged}
 use Rattle.rules.proofs.Counting.{one-le}
 use Rattle.dispatch.proofs.NextSteps.{Next, eventOf, history-next}
 use Rattle.bounds.specs.Followed.{rivalTriggered}
@@ -29,8 +38,8 @@ use Rattle.bounds.proofs.FollowedSteps.{triggers-told}
 use Rattle.handlers.specs.declared.Broken.{Broken}
 use Rattle.handlers.specs.declared.Broken.the-variants as breaks
 use Rattle.handlers.specs.declared.Seen.{Seen}
-use Rattle.handlers.specs.Handled.{broken, mayDo, brokenCall, eventIn, more, Follows, withinOf, followedFrom}
-use Rattle.handlers.proofs.RaisedLaws.{raised-few}
+use Rattle.handlers.specs.Handled.{broken, mayDo, fileWrite, brokenCall, eventIn, more, Follows, withinOf, followedFrom}
+use Rattle.handlers.proofs.RaisedLaws.{raised-few, raised-none}
 
 -- ---- a write, and a step that is none
 
@@ -67,6 +76,12 @@ module _ (cs : List Channel) (s : ℕ) (m m' : Image) (i : ℕ) where
 
 -- ---- a step that is followed
 
+-- nothing that the bound rests on changed
+unchanged-none : (i : ℕ) (p : Basis → Bool) → ((b : Basis) → p b ≡ false) → firstChanged p bases i ≡ none
+unfolding firstChanged
+unchanged-none i p f =
+    rw (f basis.Pending, f basis.Mode, f basis.CurrentLevel, f basis.TopLevel, f basis.Mask, f basis.DmaEnable, f basis.Level)
+
 module _ (start before after : Image) (cs : List Channel) (s : ℕ) (x : Step) (i : ℕ) (a : Answer) (did : outcome a (state after) ≡ actOf (state before) cs x) where
   abbrev seen : Broken → ℕ → Seen
   seen b n = record { answer = a; broken = b; more = n }
@@ -86,6 +101,39 @@ module _ (start before after : Image) (cs : List Channel) (s : ℕ) (x : Step) (
   pub follows-refused : isWrite x ≡ true → isRefused a ≡ true → Follows start before cs s x i (seen breaks.Nothing 0) after
   unfolding brokenBy
   follows-refused w r = record { did = did; breaks = rw (write-apart x w .0, r); counts = rw (r, w) }
+
+  -- one of R0 to R239 but CICR
+  pub follows-file : length before ≡ imageLength → listOk cs ≡ true → s < sources cs → fileWrite x ≡ true → Follows start before cs s x i (seen breaks.Nothing 0) after
+  unfolding brokenBy brokenStep actOf
+  follows-file long ok there w = go x w did
+    where
+      -- whether it is refused or not
+      either : (t : Bool) → breaks.Nothing ≡ broken (cond t none none)
+      either true = refl
+      either false = refl
+
+      no-more : (t : Bool) → 0 ≡ oneIf (not t && false) + cond (not t) 0 0
+      no-more true = refl
+      no-more false = refl
+
+      go : (x : Step) → fileWrite x ≡ true → outcome a (state after) ≡ actOf (state before) cs x → Follows start before cs s x i (seen breaks.Nothing 0) after
+      go (step.Read r) w e = absurd (false≢true w)
+      go (step.Write r v) w e =
+          let low = ltb-true r 240 (and-l (ltb r 240) (not (eqb r CICR)) w) in
+          let other : r ≢ CICR = λ q. false≢true (sym (ap not (eq-eqb r CICR q)) ∙ and-r (ltb r 240) (not (eqb r CICR)) w) in
+          let same : after ≡ writeOf before cs r v .image = ap (λ (o : Outcome). o .state .image) e in
+          let none-changed = unchanged-none i (changes cs s before (writeOf before cs r v .image))
+          (leaves-unchanged cs s before (writeOf before cs r v .image) (file-leaves before cs s long ok there r v low other)) in
+          record {
+            did = e;
+            breaks = rw (same, none-changed) (either (isRefused a));
+            counts = rw (same, raised-none before cs ok (rival start cs s) r v low) (no-more (isRefused a));
+          }
+      go (step.Trigger t) w e = absurd (false≢true w)
+      go step.Arbitrate w e = absurd (false≢true w)
+      go step.Return w e = absurd (false≢true w)
+      go step.Reset w e = absurd (false≢true w)
+      go step.Unknown w e = absurd (false≢true w)
 
   -- any other step
   pub follows-call : listOk cs ≡ true → isWrite x ≡ false → (d : Bool) (b : Broken) (n : ℕ) → d ≡ (isArbitration x && not (has before IEN)) → b ≡ brokenCall x a d i

@@ -1,19 +1,19 @@
 -- A write changes one byte, so it raises external channels or records and not both: twelve at most. Assumes nothing.
 use mathlib.Core.Path.{_≡_, refl, sym, ap, _∙_}
 use mathlib.Core.Logic.{_≢_, _⊎_, inl, inr}
-use mathlib.Core.Bool.{Bool, true, false, not, _&&_}
+use mathlib.Core.Bool.{Bool, true, false, cond, not, _&&_}
 use mathlib.Core.List.{List}
 use Prim.Native.Nat.{ℕ, zero, suc, _+_, _-_, _≤_, _<_}
 use native.Mathlib.Omega.{arith}
 use native.Mathlib.Decide.{ℕ-discrete}
-use lib.Dec.{ltb}
+use lib.Dec.{eqb, ltb}
 use lib.ListN.{length, set}
 use lib.Seq.{getD-set-other}
 use borrow.Author.Tests.{ltb-true, ltb-false}
 use Rattle.rules.specs.declared.Channel.{Channel}
 use Rattle.rules.specs.declared.Place.{Place}
 use Rattle.rules.specs.declared.Place.the-variants.{At, Unmodelled}
-use Rattle.rules.specs.Image.{Image, at, EIPR, Bit, has}
+use Rattle.rules.specs.Image.{Image, at, PPR, EIPR, Bit, has}
 use Rattle.rules.specs.Channels.{mostRecords, listOk}
 use Rattle.rules.specs.Registers.{placeOf, storedByte, writeAt, writeOf}
 use Rattle.rules.specs.Sources.{sources, pendingBit, pending}
@@ -23,6 +23,7 @@ use Rattle.rules.specs.Handlers.{raised}
 use Rattle.rules.proofs.Bools.{true-or}
 use Rattle.rules.proofs.Counting.{count-le, one-le}
 use Rattle.rules.proofs.ChannelLaws.{list-short}
+use Rattle.rules.proofs.PlaceLaws.{place-low}
 use Rattle.rules.proofs.PendingLaws.{pending-external, pending-elim}
 
 -- ---- counts of the numbers below n that pass a test, where all that pass are on one side of a
@@ -80,3 +81,16 @@ module _ (m : Image) (cs : List Channel) (ok : listOk cs ≡ true) (among : ℕ 
               omega (arith, below-only _ 8 (8 + length cs) (λ k g l. apart k i new (pending-elim cs ok k l (λ (b : Bit). b .byte ≢ i) (λ h e. omega arith) (λ h o e. omega arith))))
           go (no d) =
               omega (arith, list-short cs ok, above-only _ 8 (8 + length cs) (λ k h. apart k i new (λ e. d (ap (λ (b : Bit). b .byte) (sym (pending-external cs k h)) ∙ e))))
+
+  -- none by a write of R0 to R239, which have no pending bit
+  pub raised-none : (r v : ℕ) → r < 240 → raised cs among m (writeOf m cs r v .image) ≡ 0
+  unfolding writeOf writeAt raised
+  raised-none r v h =
+      let e : ℕ = cond (eqb r PPR) 0xfc 0xff in
+      rw (place-low m cs r h) (go (storedByte r e (at m r) v))
+    where
+      go : (new : ℕ) → countBelow (sources cs) (λ k. not (pending m cs k) && pending (set m r new) cs k && among k) ≡ 0
+      go new =
+          let none : countBelow (sources cs) (λ k. not (pending m cs k) && pending (set m r new) cs k && among k) ≤ 0 =
+          below-only _ 0 (sources cs) (λ k g l. apart k r new (pending-elim cs ok k l (λ (b : Bit). b .byte ≢ r) (λ t e. omega arith) (λ t o e. omega arith))) in
+          omega arith

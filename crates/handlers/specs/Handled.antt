@@ -1,10 +1,10 @@
 -- Names for the private functions of the bound over reads and writes and for its loop: what a step breaks, and the steps followed so far. Assumes nothing.
 use mathlib.Core.Path.{_≡_}
-use mathlib.Core.Bool.{Bool, true, false, cond, not, _||_}
+use mathlib.Core.Bool.{Bool, true, false, cond, not, _&&_}
 use mathlib.Core.List.{List}
 use mathlib.Core.Option.{Option, none, some}
 use Prim.Native.Nat.{ℕ, _+_}
-use lib.Dec.{eqb}
+use lib.Dec.{eqb, ltb}
 use Rattle.rules.specs.declared.Channel.{Channel}
 use Rattle.rules.specs.declared.Step.{Step}
 use Rattle.rules.specs.declared.Step.the-variants as step
@@ -13,7 +13,7 @@ use Rattle.rules.specs.declared.Basis.{Basis}
 use Rattle.rules.specs.declared.Basis.the-variants as basis
 use Rattle.rules.specs.declared.Bounded.{Bounded}
 use Rattle.rules.specs.declared.Bounded.the-variants as bounded
-use Rattle.rules.specs.Image.{Image, state}
+use Rattle.rules.specs.Image.{Image, state, CICR}
 use Rattle.rules.specs.Sources.{unmasked, dmaEnabled, level}
 use Rattle.rules.specs.Outcomes.{outcome, isRefused}
 use Rattle.rules.specs.Steps.{actOf}
@@ -53,6 +53,16 @@ mayDo step.Arbitrate = true
 mayDo step.Return = true
 mayDo step.Reset = false
 mayDo step.Unknown = false
+
+-- a write of R0 to R239 but CICR
+abbrev pub fileWrite : Step → Bool
+fileWrite (step.Read r) = false
+fileWrite (step.Write r v) = ltb r 240 && not (eqb r CICR)
+fileWrite (step.Trigger t) = false
+fileWrite step.Arbitrate = false
+fileWrite step.Return = false
+fileWrite step.Reset = false
+fileWrite step.Unknown = false
 
 -- what a step breaks that is no write, by its answer and whether it is an arbitration with interrupts disabled
 abbrev pub brokenCall : Step → Answer → Bool → ℕ → Broken

@@ -37,7 +37,7 @@ ghost use Rattle.rules.specs.Waiting.{rival};
 ghost use Rattle.rules.specs.Handlers.{isWrite, upTo};
 ghost use Rattle.rules.specs.Bounds.{startElse};
 ghost use Rattle.rules.specs.HandlerBounds.{handlerBoundIn};
-ghost use Rattle.handlers.specs.Handled.{mayDo, brokenCall, Follows, withinOf};
+ghost use Rattle.handlers.specs.Handled.{mayDo, fileWrite, brokenCall, Follows, withinOf};
 
 // What a step breaks of the premises on the steps: nothing, or what is answered of it.
 pub enum Broken {
@@ -62,6 +62,21 @@ fn may_do(step: Step) -> bool
         Step::Trigger(_) => true,
         Step::Arbitrate => true,
         Step::Return => true,
+        Step::Reset => false,
+        Step::Unknown => false,
+    }
+}
+
+// Whether a step is a write of R0 to R239 but CICR: nothing that the bound rests on stands there, so nothing is compared.
+fn is_file_write(step: Step) -> bool
+    ensures { λ b. ⌜ b ≡ fileWrite step ⌝ }
+{
+    match step {
+        Step::Read(_) => false,
+        Step::Write(register, _) => (register < 240) & (register != 230),
+        Step::Trigger(_) => false,
+        Step::Arbitrate => false,
+        Step::Return => false,
         Step::Reset => false,
         Step::Unknown => false,
     }
@@ -129,6 +144,14 @@ fn follow(
     requires { ⌜ (length (now start) ≡ imageLength) × (length (now copy) ≡ imageLength) × (listOk (listOf all) ≡ true) × (ours < sources (listOf all)) ⌝ }
     ensures { λ f. ⌜ Follows (now (start .entry)) (now (copy .entry)) (listOf all) ours step index f (now (copy .exit)) ⌝ }
 {
+    if is_file_write(step) {
+        let answer = act(copy, all, step);
+        return Seen {
+            answer,
+            broken: Broken::Nothing,
+            more: 0,
+        };
+    }
     if is_write(step) {
         return follow_write(start, copy, all, ours, step, index);
     }
