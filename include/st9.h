@@ -152,13 +152,13 @@ enum st9_kind {
     ST9_RETURNED = 8,     /* a return */
     ST9_RESET = 9,        /* a reset */
     ST9_REFUSED = 10,     /* a step that was refused: refusal */
-    /* Of a run, a wait report and a bound. */
+    /* Of a run, a wait report and the two bounds. */
     ST9_REFUSED_CALL = 11,  /* refused before any step: refusal */
     ST9_REFUSED_STEP = 12,  /* a run or a wait refused at a step: refusal, steps (its index, from 0); of a wait arbitrations, those made before it */
     /* Of a wait report. */
     ST9_ENDED = 13,         /* the list ended first: arbitrations */
     ST9_ACKNOWLEDGED = 14,  /* the source was acknowledged: arbitrations, the last included */
-    /* Of a bound: the first premise of demand 3 that fails, */
+    /* Of st9_bound and st9_handler_bound: the first premise that fails, */
     ST9_NESTED = 15,                /* nested mode (IAM = 1) */
     ST9_DMA_ENABLED = 16,           /* a record has DM = 1 */
     ST9_TOP_LEVEL_ENABLED = 17,     /* TLNM or TLI is 1 */
@@ -166,10 +166,23 @@ enum st9_kind {
     ST9_NOT_PENDING = 19,           /* the source is not pending, */
     ST9_MASKED = 20,                /* is masked, */
     ST9_LEVEL_NOT_ABOVE = 21,       /* or its level is not above the current one */
-    ST9_OTHER_STEP = 22,            /* a step that is no trigger, arbitration or return: steps, its index */
+    ST9_OTHER_STEP = 22,            /* a step that is no trigger, arbitration or return (of st9_handler_bound: a reset): steps, its index */
     ST9_INTERRUPTS_DISABLED = 23,   /* an arbitration with IEN = 0: steps, its index */
     /* or, where all hold, */
-    ST9_WITHIN = 24  /* outranking (H), triggers (E), bound (H + E + 1): acknowledged by that arbitration at the latest */
+    ST9_WITHIN = 24,  /* outranking (H), triggers (E), bound (H + E + 1): acknowledged by that arbitration at the latest */
+    /* Of st9_handler_bound alone: one more premise that fails. */
+    ST9_CHANGED = 25  /* a write that changes what the bound rests on: steps, its index; changed, what (enum st9_changed) */
+};
+
+/* What a write changed that the bound of st9_handler_bound rests on; of several the first of these. */
+enum st9_changed {
+    ST9_CHANGED_PENDING = 1,        /* it erased the source's pending bit */
+    ST9_CHANGED_MODE = 2,           /* IAM */
+    ST9_CHANGED_CURRENT_LEVEL = 3,  /* CPL */
+    ST9_CHANGED_TOP_LEVEL = 4,      /* TLI or TLNM */
+    ST9_CHANGED_MASK = 5,           /* a source's mask: an EIMR bit, or a record's IM */
+    ST9_CHANGED_DMA_ENABLE = 6,     /* a record's DM */
+    ST9_CHANGED_LEVEL = 7           /* a source's level: EIPLR, or a record's PRL */
 };
 
 /* An answer. The names in one union are one number: `kind` says which it is. */
@@ -185,6 +198,7 @@ typedef struct st9_answer {
         uint64_t source;        /* enum st9_source */
         uint64_t arbitrations;  /* made, refused ones not counted */
         uint64_t outranking;    /* H */
+        uint64_t changed;       /* enum st9_changed */
     };
     union {
         uint64_t second;    /* any of these */
@@ -211,6 +225,13 @@ st9_answer st9_wait(uint8_t *image, size_t image_length, const uint8_t *channels
 
 /* Demand 3's bound for a source over the steps: by which arbitration it is acknowledged at the latest, or why nothing is promised. The image is only read. */
 st9_answer st9_bound(const uint8_t *image, size_t image_length, const uint8_t *channels, size_t channels_length, uint32_t source, const uint64_t *words, size_t word_count);
+
+/*
+ * The same over a handler's steps, its reads and writes included: each write leaves IAM, CPL, TLI, TLNM, every source's mask, level and DMA enable,
+ * and the source's pending bit. Only the steps up to the acknowledgement count, and E has also the pending bits of outranking unmasked sources
+ * that writes raise. Never above st9_bound's where both answer one. The image is only read.
+ */
+st9_answer st9_handler_bound(const uint8_t *image, size_t image_length, const uint8_t *channels, size_t channels_length, uint32_t source, const uint64_t *words, size_t word_count);
 
 /* The number that the view of a page is refused with (1, then 3), or 0. */
 uint64_t st9_view_number(const uint8_t *image, size_t image_length, uint32_t page);

@@ -6,7 +6,7 @@ use crate::number::hex;
 use crate::pending::{Bit, Pending};
 use crate::why::Around;
 use crate::{Object, Operation, StepLine};
-use st9::{register, Answer, Bound, Channel, Effect, Refusal, Source, Step};
+use st9::{register, Answer, Channel, Effect, Refusal, Source, Step};
 
 /// A step and its answer, to be told.
 #[derive(Clone, Copy, Debug)]
@@ -265,33 +265,5 @@ pub fn counted(number: u64, thing: &str) -> String {
     match number {
         1 => format!("1 {thing}"),
         _ => format!("{number} {thing}s"),
-    }
-}
-
-/// A bound in words; a premise of steps with the step, its index counted from `from`, and its line.
-pub fn bound_words(bound: Bound, steps: &[StepLine], from: usize) -> String {
-    match bound {
-        Bound::Within { outranking, triggers, bound } => {
-            format!("by arbitration {bound} at the latest, H {outranking}, E {triggers}")
-        }
-        Bound::Fails(premise) => {
-            let found = premise.index().map(|index| from + index);
-            let found = found.and_then(|index| Some((index, steps.get(index)?)));
-            let place = found.map(|(index, step)| {
-                format!(" at step {index} (line {}: {})", step.line, step.operation)
-            });
-            format!("none, as a premise fails: {premise}{}", place.unwrap_or_default())
-        }
-    }
-}
-
-/// The same with what H and E are.
-pub fn bound_explained(bound: Bound, steps: &[StepLine], from: usize) -> String {
-    let words = bound_words(bound, steps, from);
-    match bound {
-        Bound::Within { .. } => format!(
-            "{words} (if the list has so many; H: outranking sources pending at the start, E: triggers of outranking sources in the list)"
-        ),
-        Bound::Fails(_) => words,
     }
 }

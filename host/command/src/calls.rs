@@ -1,6 +1,7 @@
 //! The model as the command calls it, and the calls of a scenario with their answers.
 
-use crate::answers::{bound_explained, counted, refused, Report};
+use crate::answers::{counted, refused, Report};
+use crate::bounds::{bound_json, Bounds, Claim, Claimed, List};
 use crate::number::hex;
 use crate::{Call, Case, Object};
 use st9::{Answer, Bound, Channel, Done, Refusal, RunError, Source, Step, Wait, WaitError};
@@ -31,6 +32,15 @@ pub trait Model {
         words: &[u64],
     ) -> Result<Bound, Refusal>;
 
+    /// The bound by the handlers' claim.
+    fn handler_bound(
+        &self,
+        image: &[u8],
+        channels: &[Channel],
+        source: Source,
+        words: &[u64],
+    ) -> Result<Bound, Refusal>;
+
     /// The view of a page.
     fn view<'a>(&self, image: &'a [u8], page: u32) -> Result<&'a [u8], Refusal>;
 }
@@ -47,8 +57,10 @@ pub enum CallAnswer {
     },
     /// Of a wait.
     Wait(Result<Wait, WaitError>),
-    /// Of a bound.
-    Bound(Result<Bound, Refusal>),
+    /// Of a bound: what both claims say.
+    Bound(Result<Bounds, Refusal>),
+    /// Of a handlers' bound.
+    HandlerBound(Result<Bound, Refusal>),
     /// Of a view.
     View(Result<Vec<u8>, Refusal>),
 }
@@ -105,7 +117,12 @@ impl<'a> CallReport<'a> {
                 CallAnswer::Run { done, before_last }
             }
             Call::Wait(source) => CallAnswer::Wait(model.wait(&mut after, channels, source, words)),
-            Call::Bound(source) => CallAnswer::Bound(model.bound(&after, channels, source, words)),
+            Call::Bound(source) => {
+                CallAnswer::Bound(Bounds::of(model, &after, channels, source, words))
+            }
+            Call::HandlerBound(source) => {
+                CallAnswer::HandlerBound(model.handler_bound(&after, channels, source, words))
+            }
             Call::View(page) => CallAnswer::View(model.view(&after, page).map(<[u8]>::to_vec)),
         };
         CallReport { call, line, from, answer, before, after, case }
@@ -119,6 +136,7 @@ impl<'a> CallReport<'a> {
             | CallAnswer::Wait(Err(WaitError::Call(refusal)))
             | CallAnswer::Wait(Err(WaitError::Step { refusal, .. }))
             | CallAnswer::Bound(Err(refusal))
+            | CallAnswer::HandlerBound(Err(refusal))
             | CallAnswer::View(Err(refusal)) => Some(refusal),
             _ => None,
         }
@@ -158,13 +176,22 @@ impl<'a> CallReport<'a> {
         match &self.answer {
             CallAnswer::Run { done, .. } => self.run_words(done),
             CallAnswer::Wait(waited) => waited_words(*waited, self.case, self.from),
-            CallAnswer::Bound(Ok(bound)) => bound_explained(*bound, &self.case.steps, self.from),
+            CallAnswer::Bound(Ok(bounds)) => bounds.explained(self.list()),
+            CallAnswer::HandlerBound(Ok(bound)) => {
+                Claimed { claim: Claim::Handlers, bound: *bound }.explained(self.list())
+            }
             CallAnswer::View(Ok(bytes)) => {
                 let bytes = bytes.iter().map(|byte| hex(*byte)).collect::<Vec<_>>();
                 format!("bytes {}", bytes.join(" "))
             }
-            CallAnswer::Bound(Err(refusal)) | CallAnswer::View(Err(refusal)) => refused(*refusal),
+            CallAnswer::Bound(Err(refusal))
+            | CallAnswer::HandlerBound(Err(refusal))
+            | CallAnswer::View(Err(refusal)) => refused(*refusal),
         }
+    }
+
+    fn list(&self) -> List<'_> {
+        List { steps: &self.case.steps, from: self.from }
     }
 
     fn run_words(&self, done: &Result<Done, RunError>) -> String {
@@ -186,7 +213,9 @@ impl<'a> CallReport<'a> {
     /// The statement, with the own name of a source.
     pub fn statement(&self) -> String {
         let own = match self.call {
-            Call::Wait(source) | Call::Bound(source) => self.case.names.of(source),
+            Call::Wait(source) | Call::Bound(source) | Call::HandlerBound(source) => {
+                self.case.names.of(source)
+            }
             _ => None,
         };
         match own {
@@ -195,35 +224,49 @@ impl<'a> CallReport<'a> {
         }
     }
 
-    /// The call as an object.
-    pub fn json(&self) -> String {
-        let start = |name| {
-            let object = Object::new().text("type", name).number("at", self.line.into());
-            object.number("from", self.from as u64)
-        };
-        let (case, names, from) = (self.case, &self.case.names, self.from);
+    /// The call as an object; a bound that both claims were asked for as two.
+    pub fn json(&self) -> Vec<String> {
+        let (case, names) = (self.case, &self.case.names);
         let object = match &self.answer {
-            CallAnswer::Run { done, .. } => self.run_json(start("run"), *done),
+            CallAnswer::Run { done, .. } => self.run_json(self.object("run"), *done),
             CallAnswer::Wait(waited) => {
-                waited_json(start("wait").source(self.source(), names), *waited, case, from)
+                let object = self.object("wait").source(self.source(), names);
+                waited_json(object, *waited, case, self.from)
             }
-            CallAnswer::Bound(bound) => {
-                bound_json(start("bound").source(self.source(), names), *bound, case, from)
+            CallAnswer::Bound(Ok(bounds)) => {
+                let told = |claimed: Claimed| {
+                    let object = self.bound_json(claimed.claim, Ok(claimed.bound));
+                    object.text("words", &claimed.explained(self.list())).end()
+                };
+                return bounds.all().map(told).collect();
             }
+            CallAnswer::Bound(Err(refusal)) => self.bound_json(Claim::Demand3, Err(*refusal)),
+            CallAnswer::HandlerBound(bound) => self.bound_json(Claim::Handlers, *bound),
             CallAnswer::View(Ok(bytes)) => {
                 let bytes = bytes.iter().map(u8::to_string).collect::<Vec<_>>();
-                start("view").text("result", "viewed").list("bytes", &bytes)
+                self.object("view").text("result", "viewed").list("bytes", &bytes)
             }
             CallAnswer::View(Err(refusal)) => {
-                start("view").text("result", "refused").refusal(*refusal)
+                self.object("view").text("result", "refused").refusal(*refusal)
             }
         };
-        object.text("words", &self.words()).end()
+        vec![object.text("words", &self.words()).end()]
+    }
+
+    /// The start of an object of this call.
+    fn object(&self, kind: &str) -> Object {
+        let object = Object::new().text("type", kind).number("at", self.line.into());
+        object.number("from", self.from as u64)
+    }
+
+    fn bound_json(&self, claim: Claim, bound: Result<Bound, Refusal>) -> Object {
+        let object = self.object(claim.kind()).source(self.source(), &self.case.names);
+        bound_json(object, claim, bound, self.list())
     }
 
     fn source(&self) -> Source {
         match self.call {
-            Call::Wait(source) | Call::Bound(source) => source,
+            Call::Wait(source) | Call::Bound(source) | Call::HandlerBound(source) => source,
             _ => Source(0),
         }
     }
@@ -299,31 +342,6 @@ pub fn waited_json(
             refused_json(object, refusal, case, Some(from + index))
                 .number("arbitrations", arbitrations)
         }
-    }
-}
-
-/// A bound's members.
-pub fn bound_json(
-    object: Object,
-    bound: Result<Bound, Refusal>,
-    case: &Case,
-    from: usize,
-) -> Object {
-    match bound {
-        Ok(Bound::Within { outranking, triggers, bound }) => object
-            .text("result", "within")
-            .number("outranking", outranking)
-            .number("triggers", triggers)
-            .number("bound", bound),
-        Ok(Bound::Fails(premise)) => {
-            let index = premise.index().map(|index| from + index);
-            object
-                .text("result", "fails")
-                .text("premise", &premise.to_string())
-                .optional("step", index.map(|index| index as u64))
-                .optional("line", index.map(|index| case.line_of(index).into()))
-        }
-        Err(refusal) => object.text("result", "refused").refusal(refusal),
     }
 }
 

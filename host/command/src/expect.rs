@@ -7,17 +7,19 @@ use crate::number::{number, number_32};
 use crate::parse::{self, expected, Arguments, Problem, BYTE};
 use crate::pending::Bit;
 use crate::quote::printable;
-use st9::{Effect, Premise, Refusal, Source};
+use st9::{Basis, Effect, Premise, Refusal, Source};
 
 const EXPECTATIONS: &str = "an answer as the command prints it, changed, or a register";
 const SOURCE: &str = "a source as INTB1, CH0, channel 0 or a name of your own";
 const BIT: &str = "TLIP, or a source as INTB1, CH0, channel 0 or a name of your own";
 const COUNT: &str = "a number";
 const REFUSAL: &str = "the number of a refusal";
-const PREMISE: &str = "a premise of demand 3, as not pending or masked";
+const PREMISE: &str = "a premise of a bound, as not pending or masked";
 
-/// Premises by the words that the command prints, and by shorter ones.
-const PREMISES: [(&str, &str, Premise); 9] = [
+/// A premise by the words that the command prints, and by shorter ones.
+type Row = (&'static str, &'static str, Premise);
+
+const PREMISES: [Row; 10] = [
     ("nested mode", "nested", Premise::Nested),
     ("a channel has dma enabled", "dma enabled", Premise::DmaEnabled),
     ("top level enabled", "top level enabled", Premise::TopLevelEnabled),
@@ -25,17 +27,31 @@ const PREMISES: [(&str, &str, Premise); 9] = [
     ("the source is not pending", "not pending", Premise::NotPending),
     ("the source is masked", "masked", Premise::Masked),
     ("the source's level is not above the current one", "level not above", Premise::LevelNotAbove),
-    (
-        "a step that is no trigger arbitration or return",
-        "other step",
-        Premise::OtherStep { index: 0 },
-    ),
+    ("a step that is no trigger arbitration or return", "other step", OTHER_STEP),
+    ("a step that is no trigger arbitration return read or write", "other step", OTHER_STEP),
     (
         "an arbitration with interrupts disabled",
         "interrupts disabled",
         Premise::InterruptsDisabled { index: 0 },
     ),
 ];
+
+const OTHER_STEP: Premise = Premise::OtherStep { index: 0 };
+
+/// The premises on writes; the long words are those after `the write at step 4`.
+const CHANGES: [Row; 7] = [
+    ("erases the source's pending bit", "erased", changed(Basis::Pending)),
+    ("changes the mode", "mode changed", changed(Basis::Mode)),
+    ("changes the current level", "current level changed", changed(Basis::CurrentLevel)),
+    ("changes the top level's enables", "top level changed", changed(Basis::TopLevel)),
+    ("changes a source's mask", "mask changed", changed(Basis::Mask)),
+    ("changes a channel's dma enable", "dma enable changed", changed(Basis::DmaEnable)),
+    ("changes a source's level", "level changed", changed(Basis::Level)),
+];
+
+const fn changed(basis: Basis) -> Premise {
+    Premise::Changed { basis, index: 0 }
+}
 
 /// The expectation of the words after `expect`. What stands in parentheses is the command's explanation and not compared.
 pub(crate) fn expect(text: &[u8], names: &Names) -> Result<Expect, Problem> {
@@ -122,13 +138,15 @@ impl Reader<'_> {
         is
     }
 
-    /// Takes words that are printed and say nothing more.
-    fn all_taken(&mut self, words: &[&str]) {
+    /// Whether the next words are these; then they are taken.
+    fn all_taken(&mut self, words: &[&str]) -> bool {
         let next = self.words.0.iter().zip(words);
         let same = next.filter(|(next, word)| next.eq_ignore_ascii_case(word.as_bytes())).count();
-        if same == words.len() {
+        let are = same == words.len();
+        if are {
             self.words.0 = &self.words.0[same..];
         }
+        are
     }
 
     fn byte(&mut self) -> Result<u8, Problem> {
@@ -285,9 +303,22 @@ impl Reader<'_> {
         if self.words.0.is_empty() {
             return Ok(Expected::Nothing);
         }
+        if self.all_taken(&["the", "write"]) {
+            let step = self.at_step()?;
+            return Ok(Expected::Fails { premise: self.premise(&mut CHANGES.iter())?, step });
+        }
+        let premise = self.premise(&mut PREMISES.iter().chain(&CHANGES))?;
+        Ok(Expected::Fails { premise, step: self.at_step()? })
+    }
+
+    /// A premise among these, by its long or its short words.
+    fn premise<'r>(
+        &mut self,
+        rows: &mut impl Iterator<Item = &'r Row>,
+    ) -> Result<Premise, Problem> {
         let said: Vec<_> = self.words.0.iter().map(|word| word.to_ascii_lowercase()).collect();
         let said = said.join(&b' ');
-        let found = PREMISES.iter().find_map(|(long, short, premise)| {
+        let found = rows.find_map(|(long, short, premise)| {
             let starts = |words: &str| {
                 let rest = said.strip_prefix(words.as_bytes())?;
                 (rest.is_empty() || rest[0] == b' ').then_some(words.split(' ').count())
@@ -298,7 +329,7 @@ impl Reader<'_> {
             return Err(expected(PREMISE, &said));
         };
         self.words.0 = &self.words.0[count..];
-        Ok(Expected::Fails { premise, step: self.at_step()? })
+        Ok(premise)
     }
 
     /// Of an arbitration the top level or a source, of a wait `by arbitration 3`.
@@ -336,9 +367,7 @@ impl Reader<'_> {
         self.taken("with");
         let refusal = |word: &[u8]| Refusal::from_number(number(word)?);
         let number = self.words.take(REFUSAL, refusal)?.number();
-        let words = self.words.0.len();
-        self.all_taken(&["before", "any", "step"]);
-        if self.words.0.len() < words {
+        if self.all_taken(&["before", "any", "step"]) {
             let at = Some(RefusedAt::BeforeAnyStep);
             return Ok(Expected::Refused { number, at, arbitrations: None });
         }
@@ -489,6 +518,14 @@ mod tests {
             (
                 "none: other step at step 1",
                 "none, as a premise fails: a step that is no trigger, arbitration or return at step 1 (line 8: read CICR)",
+            ),
+            (
+                "none: other step at step 1",
+                "none, as a premise fails: a step that is no trigger, arbitration, return, read or write at step 1 (line 8: reset)",
+            ),
+            (
+                "none: erased at step 4",
+                "none, as a premise fails: the write at step 4 (line 16: write EIPR 00h) erases the source's pending bit (the handlers' claim; demand 3 does not speak of step 3 (line 15: read EIPR))",
             ),
             ("done 2 last none", "done: 2 steps, last answer: none (nothing is pending)"),
             ("never", "not acknowledged"),

@@ -31,7 +31,7 @@ pub enum Expected {
     /// Of a trigger: what it did to the bits that are named; every other one is not selected. Without a name it is the
     /// one bit that the trigger selects.
     Triggered(Vec<(Option<Bit>, Effect)>),
-    /// Of an arbitration that found nothing, and of a bound where any premise fails.
+    /// Of an arbitration that found nothing, and of a bound where neither claim gives one.
     Nothing,
     /// Of an arbitration.
     TopLevel {
@@ -86,7 +86,7 @@ pub enum Expected {
         /// The arbitrations made.
         arbitrations: Option<u64>,
     },
-    /// Of a bound.
+    /// Of a bound, by either claim.
     Within {
         /// H + E + 1.
         bound: u64,
@@ -95,7 +95,7 @@ pub enum Expected {
         /// E.
         triggers: Option<u64>,
     },
-    /// Of a bound: the first premise that fails; the index in it is not looked at.
+    /// Of a bound: the first premise of either claim that fails; the index in it is not looked at.
     Fails {
         /// Which.
         premise: Premise,
@@ -268,7 +268,14 @@ impl Expected {
                 _ => false,
             },
             CallAnswer::Wait(Ok(waited)) => self.is_met_by_wait(*waited, report),
-            CallAnswer::Bound(Ok(bound)) => self.is_met_by_bound(*bound, report),
+            CallAnswer::Bound(Ok(bounds)) => {
+                let mut all = bounds.all().map(|claimed| claimed.bound);
+                match self {
+                    Expected::Nothing => all.all(|bound| self.is_met_by_bound(bound, report)),
+                    _ => all.any(|bound| self.is_met_by_bound(bound, report)),
+                }
+            }
+            CallAnswer::HandlerBound(Ok(bound)) => self.is_met_by_bound(*bound, report),
             CallAnswer::View(Ok(bytes)) => *self == Expected::Page(bytes.clone()),
             _ => false,
         }
@@ -299,9 +306,8 @@ impl Expected {
             ) => *bound == by && is_said(*outranking, h) && is_said(*triggers, e),
             (Expected::Nothing, Bound::Fails(_)) => true,
             (Expected::Fails { premise, step }, Bound::Fails(failing)) => {
-                let kind = std::mem::discriminant(premise) == std::mem::discriminant(&failing);
                 let index = failing.index().map(|index| report.from + index);
-                kind && step.is_none_or(|step| index == Some(step))
+                is_same(*premise, failing) && step.is_none_or(|step| index == Some(step))
             }
             _ => false,
         }
@@ -331,6 +337,14 @@ impl Expected {
             },
             _ => came.words(),
         }
+    }
+}
+
+/// Whether two premises are the same, whatever their steps.
+fn is_same(premise: Premise, other: Premise) -> bool {
+    match (premise, other) {
+        (Premise::Changed { basis, .. }, Premise::Changed { basis: other, .. }) => basis == other,
+        _ => std::mem::discriminant(&premise) == std::mem::discriminant(&other),
     }
 }
 

@@ -300,7 +300,7 @@ impl Draft {
             }
             Statement::Expect(_) if !self.has_started() => {
                 return Err(format!(
-                    "'{statement}' before a step: expected a step, run, wait, bound or view before it"
+                    "'{statement}' before a step: expected a step, run, wait, bound, handler bound or view before it"
                 ))
             }
             Statement::Expect(expect) => {

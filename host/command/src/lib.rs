@@ -8,6 +8,7 @@
 
 mod account;
 mod answers;
+mod bounds;
 mod calls;
 mod changes;
 mod doubt;
@@ -29,10 +30,9 @@ mod stored;
 mod why;
 
 pub use account::{Account, Loss, Row};
-pub use answers::{bound_explained, bound_words, counted, refused, Report};
-pub use calls::{
-    bound_json, refused_json, waited_json, waited_words, CallAnswer, CallReport, Made, Model,
-};
+pub use answers::{counted, refused, Report};
+pub use bounds::{bound_json, Bounds, Claim, Claimed, List};
+pub use calls::{refused_json, waited_json, waited_words, CallAnswer, CallReport, Made, Model};
 pub use changes::{changes, Change};
 pub use expectation::{Expect, Expected, RefusedAt};
 pub use fields::{Bits, Field};

@@ -71,7 +71,7 @@ const LONGEST: usize = 32;
 /// The words of statements and expectations, which are no names of one's own.
 const RESERVED: &str = "above acknowledged after again and answer any arbitrate arbitration arbitrations as at before block bound by \
     byte bytes case changed channel counted dapr data dcpr direction disabled dma done edge enabled \
-    ended erased expect fails falling fill has idcr if image in interrupts ip is ivr last latest \
+    ended erased expect fails falling fill handler has idcr if image in interrupts ip is ivr last latest \
     level list mark masked merged mode moved name nested never nmi no none not nothing of one other \
     out page pending premise priority raised read refused repeat request reset return returned rising run \
     selected service set source step steps the tlip top trigger vector view wait watchdog with \
@@ -266,7 +266,7 @@ mod tests {
         }
         for bad in [
             "", "1A", "CICR", "INTB0", "ch3", "BADh", "R16", "Erased", "a.b", "é", "TLIP", "Again",
-            "repeat",
+            "repeat", "Handler",
         ] {
             assert!(!may_be_name(bad.as_bytes()), "{bad}");
         }

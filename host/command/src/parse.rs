@@ -12,7 +12,7 @@ use st9::{Channel, Edge, Source, Step};
 pub(crate) type Problem = String;
 
 const STATEMENTS: &str = "image, set, channel, name, case, again, a step (read, write, edge, watchdog, nmi, request, arbitrate, return, reset, step), \
-                          repeat, run, wait, bound, view or expect";
+                          repeat, run, wait, bound, handler bound, view or expect";
 const STEP: &str = "a step as arbitrate or write EIPR 00h";
 const REGISTER: &str = "a register as EIPR, R243 or 243, without a page: PPR selects it";
 pub(crate) const BYTE: &str = "a byte as 97h, 0x97 or 151, at most FFh";
@@ -22,6 +22,7 @@ const RECORD: &str = "a record as 0 or CH0, or a name of your own";
 const DIRECTION: &str = "falling, rising or a number";
 const PLACE: &str = "R0 to R239, a name as EIPR, R240.p9 or MARK";
 const CHANNEL: &str = "page=, idcr=, ivr=, dcpr=, dapr=, data=, and in or out";
+const HANDLER: &str = "bound and a source after handler";
 const SOURCE: &str = "a source as INTB1 or CH0, a name of your own or a number";
 const NAME: &str =
     "a name of letters, digits, _ and -, a letter first, that is no word of the language";
@@ -104,6 +105,7 @@ fn of_words(
         b"run" => Statement::Call(Call::Run),
         b"wait" => Statement::Call(Call::Wait(source(&mut arguments, names)?)),
         b"bound" => Statement::Call(Call::Bound(source(&mut arguments, names)?)),
+        b"handler" => Statement::Call(Call::HandlerBound(handler_bound(&mut arguments, names)?)),
         b"view" => Statement::Call(Call::View(arguments.take("a page's number", number_32)?)),
         b"repeat" => repeat(&mut arguments, names)?,
         _ => {
@@ -182,6 +184,13 @@ fn request(arguments: &mut Arguments, names: &Names) -> Result<u32, Problem> {
         Some(source) => source.0.checked_sub(8),
         None => record(word),
     })
+}
+
+/// `bound` and a source, after `handler`.
+fn handler_bound(arguments: &mut Arguments, names: &Names) -> Result<Source, Problem> {
+    let is_bound = |word: &[u8]| word.eq_ignore_ascii_case(b"bound").then_some(());
+    arguments.take(HANDLER, is_bound)?;
+    source(arguments, names)
 }
 
 /// A source by name or number; `channel 0` is two words.
@@ -457,6 +466,7 @@ mod tests {
             ("case  two  words # c", "case two  words"),
             ("wait channel 1", "wait CH1"),
             ("BOUND intc0", "bound INTC0"),
+            ("Handler BOUND channel 0", "handler bound CH0"),
             ("view 3Fh", "view 63"),
             ("run", "run"),
             ("expect  acknowledged  INTC0 # c", "expect acknowledged INTC0"),

@@ -78,7 +78,7 @@ impl Printer<'_> {
         let width = self.width();
         self.line(
             || format!("{:width$}  {:<20}  {}", "", report.statement(), report.words()),
-            || report.json(),
+            || report.json().join("\n"),
         );
     }
 

@@ -36,6 +36,16 @@ impl Model for Proved {
         st9::bound(image, channels, source, words)
     }
 
+    fn handler_bound(
+        &self,
+        image: &[u8],
+        channels: &[Channel],
+        source: Source,
+        words: &[u64],
+    ) -> Result<Bound, Refusal> {
+        st9::handler_bound(image, channels, source, words)
+    }
+
     fn view<'a>(&self, image: &'a [u8], page: u32) -> Result<&'a [u8], Refusal> {
         st9::view(image, page)
     }

@@ -77,8 +77,10 @@ pub enum Call {
     Run,
     /// The wait report for a source.
     Wait(Source),
-    /// Demand 3's bound for a source.
+    /// Demand 3's bound for a source, and where that fails at a step the handlers' claim's.
     Bound(Source),
+    /// The handlers' claim's bound for a source.
+    HandlerBound(Source),
     /// The view of a page.
     View(u32),
 }
@@ -178,6 +180,7 @@ impl fmt::Display for Call {
             Call::Run => f.write_str("run"),
             Call::Wait(source) => write!(f, "wait {}", source_word(*source)),
             Call::Bound(source) => write!(f, "bound {}", source_word(*source)),
+            Call::HandlerBound(source) => write!(f, "handler bound {}", source_word(*source)),
             Call::View(page) => write!(f, "view {page}"),
         }
     }

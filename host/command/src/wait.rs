@@ -8,8 +8,8 @@ use crate::print::{print_note, print_rows, print_title};
 use crate::progress::Progress;
 use crate::save::Saved;
 use scenario::{
-    bound_explained, bound_json, bound_words, follow, note, refused, waited_json, waited_words,
-    Account, Bit, Case, Loss, Names, Object, Proved, Row,
+    bound_json, follow, note, refused, waited_json, waited_words, Account, Bit, Bounds, Case,
+    Claim, List, Loss, Names, Object, Proved, Row,
 };
 use st9::{Bound, Refusal, Source, Wait, WaitError};
 use std::ffi::OsStr;
@@ -66,11 +66,11 @@ fn sources(case: &Case) -> Vec<Source> {
     (0..8 + records).map(Source).collect()
 }
 
-/// The wait report and the bound of a source.
+/// The wait report and the bounds of a source.
 struct Report {
     source: Source,
     waited: Result<Wait, WaitError>,
-    bound: Result<Bound, Refusal>,
+    bounds: Result<Bounds, Refusal>,
     /// The image after the wait.
     image: Vec<u8>,
 }
@@ -80,19 +80,19 @@ impl Report {
         let words = case.words();
         let progress = Progress::new(words.len(), "steps");
         progress.whole("the bound over");
-        let bound = st9::bound(image, &case.channels, source, &words);
+        let bounds = Bounds::of(&Proved, image, &case.channels, source, &words);
         progress.whole("the wait report over");
         let mut image = image.to_vec();
         let waited = st9::wait(&mut image, &case.channels, source, &words);
-        Report { source, waited, bound, image }
+        Report { source, waited, bounds, image }
     }
 
     fn print(&self, case: &Case, output: &mut Output) {
         let source = case.names.told(self.source);
         let waited = self.waited_words(case);
         output.line(&format!("wait for {source} (source {}): {waited}", self.source.0));
-        let bound = match self.bound {
-            Ok(bound) => bound_explained(bound, &case.steps, 0),
+        let bound = match self.bounds {
+            Ok(bounds) => bounds.explained(list(case)),
             Err(refusal) => refused(refusal),
         };
         output.line(&format!("bound: {bound}"));
@@ -112,8 +112,14 @@ impl Report {
     fn print_json(&self, case: &Case, output: &mut Output) {
         let wait = Object::new().text("type", "wait").source(self.source, &case.names);
         output.line(&waited_json(wait, self.waited, case, 0).end());
-        let bound = Object::new().text("type", "bound").source(self.source, &case.names);
-        output.line(&bound_json(bound, self.bound, case, 0).end());
+        let mut bound = |claim: Claim, bound: Result<Bound, Refusal>| {
+            let object = Object::new().text("type", claim.kind()).source(self.source, &case.names);
+            output.line(&bound_json(object, claim, bound, list(case)).end());
+        };
+        match self.bounds {
+            Ok(bounds) => bounds.all().for_each(|claimed| bound(claimed.claim, Ok(claimed.bound))),
+            Err(refusal) => bound(Claim::Demand3, Err(refusal)),
+        }
     }
 
     /// Whether the source was acknowledged, by arbitration `within` at the latest where that is said.
@@ -127,6 +133,11 @@ impl Report {
     }
 }
 
+/// The steps of a case, whole.
+fn list(case: &Case) -> List<'_> {
+    List { steps: &case.steps, from: 0 }
+}
+
 /// All sources: a line each of those that something came for, one line with the others.
 fn print_table(case: &Case, account: &Account, reports: &[Report], output: &mut Output) {
     if let Some(Report { waited: Err(WaitError::Call(refusal)), .. }) = reports.first() {
@@ -137,8 +148,8 @@ fn print_table(case: &Case, account: &Account, reports: &[Report], output: &mut 
     let (waiting, idle): (Vec<&Report>, Vec<_>) =
         reports.iter().partition(|report| came.contains(&report.source));
     let rows = waiting.iter().map(|report| {
-        let bound = match report.bound {
-            Ok(bound) => bound_words(bound, &case.steps, 0),
+        let bound = match report.bounds {
+            Ok(bounds) => bounds.words(list(case)),
             Err(refusal) => refused(refusal),
         };
         [case.names.told(report.source), report.waited_words(case), bound]

@@ -162,7 +162,7 @@ fn accounts_of_records() {
 fn calls_are_not_counted() {
     let steps = "edge INTB0 falling\nCALL\nedge INTC0 falling\nwrite EIPR 10h\narbitrate\n";
     let plain = run(&format!("{START}{}", steps.replace("CALL\n", ""))).with_code(0).out;
-    for call in ["run", "wait INTC0", "bound INTB0", "view 0"] {
+    for call in ["run", "wait INTC0", "bound INTB0", "handler bound INTB0", "view 0"] {
         let out = run(&format!("{START}{}", steps.replace("CALL", call))).with_code(0).out;
         let without_lines =
             |line: String| line.split(" (line").next().expect("a start").to_string();
@@ -207,8 +207,8 @@ fn a_run_refused_before_any_step_has_an_account() {
 #[test]
 fn the_march_incident() {
     let expected = "every register as at the start\n\
-        account  INTB0  raised 2, acknowledged 1, erased 1 (line 16: write EIPR 00h)\n\
-        account  INTC0  raised 1, erased 1 (line 16: write EIPR 00h)\n\
+        account  INTB0  raised 2, acknowledged 1, erased 1 (line 18: write EIPR 00h)\n\
+        account  INTC0  raised 1, erased 1 (line 18: write EIPR 00h)\n\
         done: 7 steps\n";
     let march = ["run", "examples/march.st9"];
     let quiet = st9_in(&root(), &[&march[..], &["--quiet"]].concat(), b"").with_code(0).out;
@@ -678,7 +678,7 @@ fn triggered(statement: &str) -> Option<usize> {
 #[test]
 fn objects_have_each_member_once() {
     let scenario = format!(
-        "{START}{RECORD}name FAN INTC0\nset EIPR 10h\nwait FAN\nexpect acknowledged\nbound FAN\nrun\nview 0\n\
+        "{START}{RECORD}name FAN INTC0\nset EIPR 10h\nwait FAN\nexpect acknowledged\nbound FAN\nhandler bound FAN\nrun\nview 0\n\
          wait 99\nexpect refused 4\nrequest 0\narbitrate\nwrite EIPR 00h\nread R256\n"
     );
     for arguments in [

@@ -58,7 +58,9 @@ fn readme_shows_the_reviewers_questions() {
     let readme = document("README.md");
     let out = st9_in(&root(), &["run", "cases/alarms.st9"], b"").with_code(0).out;
     assert!(readme.contains("./st9 run cases/alarms.st9"));
-    for start in ["case over-temperature;", "3  write EIPR 00h  ", "case both pending;"] {
+    let own_bit = "   wait INTC0            acknowledged by arbitration 1 at step 7";
+    let erased = "   bound INTC0           none, as a premise fails: the write at step 3";
+    for start in [own_bit, erased, "case both pending;"] {
         let block = block(&readme, start);
         assert!(out.contains(&block), "{block}");
     }
@@ -85,12 +87,23 @@ fn guide_shows_its_scenario() {
     let wait = ["wait", "-", "--source", "FAN"];
     let waited = st9(&wait, &scenario).with_code(0);
     assert!(guide.contains(&shown(&waited.out)), "{}", waited.out);
-    let writes =
-        scenario.replace("return                      # the handler ends", "write EIPR 00h");
-    let unbounded = st9(&wait, &writes).with_code(0);
-    let bound =
-        unbounded.out.lines().find(|line| line.starts_with("bound")).expect("a bound's line");
-    assert!(guide.contains(&shown(bound)), "{bound}");
+    let ends = "return                      # the handler ends";
+    for handler in ["write EIPR 00h", &format!("read EIPR\nwrite EIPR 10h\n{ends}")] {
+        let waited = st9(&wait, &scenario.replace(ends, handler)).with_code(0);
+        let bound = waited.out.lines().find(|line| line.starts_with("bound"));
+        let bound = bound.expect("a bound's line");
+        assert!(guide.contains(&shown(bound)), "{bound}");
+    }
+}
+
+#[test]
+fn guide_shows_the_march_incident() {
+    let guide = document("docs/GUIDE.md");
+    let out = st9_in(&root(), &["run", "examples/march.st9"], b"").with_code(0).out;
+    for start in ["4  write EIPR", "account  INTB0"] {
+        let block = block(&guide, start);
+        assert!(out.contains(&block), "{block}");
+    }
 }
 
 #[test]

@@ -5,7 +5,7 @@ mod support;
 use support::{folder, st9, st9_in};
 
 const STATEMENTS: &str = "image, set, channel, name, case, again, a step (read, write, edge, watchdog, nmi, request, arbitrate, return, reset, step), \
-                          repeat, run, wait, bound, view or expect";
+                          repeat, run, wait, bound, handler bound, view or expect";
 const NAME: &str = "zero, fill BYTE or counted, each with or without a length, or a file's name (with blanks: between double quotes)";
 
 /// Bad lines and what is told of each.
@@ -75,6 +75,14 @@ name FAN INTE0 => 'INTE0': expected SOURCE
 wait => the line ends too early: expected SOURCE
 wait INTE0 => 'INTE0': expected SOURCE
 bound channel => the line ends too early: expected SOURCE
+handler => the line ends too early: expected bound and a source after handler
+handler INTB0 => 'INTB0': expected bound and a source after handler
+handler wait INTB0 => 'wait': expected bound and a source after handler
+handlers bound INTB0 => 'handlers': expected STATEMENTS
+handler bound => the line ends too early: expected SOURCE
+handler bound INTE0 => 'INTE0': expected SOURCE
+handler bound INTB0 1 => '1': expected the end of the line
+name handler INTC0 => 'handler': expected NAME
 view => the line ends too early: expected a page's number
 view 4294967296 => '4294967296': expected a page's number
 run 3 => '3': expected the end of the line
@@ -91,6 +99,7 @@ repeat 18446744073709551617 return => '18446744073709551617': expected TIMES
 repeat 3 => the line ends too early: expected STEP
 repeat 3 run => 'run': expected STEP
 repeat 3 wait INTB0 => 'wait': expected STEP
+repeat 3 handler bound INTB0 => 'handler': expected STEP
 repeat 3 expect none => 'expect': expected STEP
 repeat 3 set R1 1 => 'set': expected STEP
 repeat 3 again => 'again': expected STEP
@@ -98,7 +107,7 @@ repeat 3 repeat 3 return => 'repeat': expected STEP
 repeat 3 read FOO => 'FOO': expected REGISTER
 repeat 3 write EIPR => the line ends too early: expected BYTE
 repeat 3 arbitrate 1 => '1': expected the end of the line
-expect raised => 'expect raised' before a step: expected a step, run, wait, bound or view before it
+expect raised => 'expect raised' before a step: expected a step, run, wait, bound, handler bound or view before it
 arbitrate\rreturn => a carriage return inside a line: expected lines ended by LF or CRLF";
 
 /// What stands for the words in capitals.
@@ -159,7 +168,13 @@ refused 8 => '8': expected the number of a refusal
 refused 3 before => 'before': expected the end of the line
 refused 3 before step => 'before': expected the end of the line
 refused 4 before any step after 1 arbitration => 'after': expected the end of the line
-none: asleep => 'asleep': expected a premise of demand 3, as not pending or masked
+none: asleep => 'asleep': expected PREMISE
+none: changed at step 1 => 'changed at step 1': expected PREMISE
+none: erasedly => 'erasedly': expected PREMISE
+none: mask changed at step => the line ends too early: expected a number
+none: mask changed at step 1 2 => '2': expected the end of the line
+none: the write at step 1 => nothing: expected PREMISE
+none: the write at step 1 masked => 'masked': expected PREMISE
 done => the line ends too early: expected a number
 done 1 last => the line ends too early: expected ANY
 bytes 00h 01h => the line ends too early: expected sixteen bytes
@@ -178,6 +193,7 @@ raised (INTB0 => '(': expected its closing parenthesis";
 #[test]
 fn bad_expectations_are_told() {
     let words = [
+        ("PREMISE", "a premise of a bound, as not pending or masked"),
         ("ANY", "an answer as the command prints it, changed, or a register"),
         ("BYTE", "a byte as 97h, 0x97 or 151, at most FFh"),
         ("BIT", "TLIP, or a source as INTB1, CH0, channel 0 or a name of your own"),
@@ -232,7 +248,7 @@ fn bad_order() {
         ),
         (
             "image zero\ncase a\nreturn\nagain\nexpect returned\n",
-            "-:5: 'expect returned' before a step: expected a step, run, wait, bound or view before it".into(),
+            "-:5: 'expect returned' before a step: expected a step, run, wait, bound, handler bound or view before it".into(),
         ),
         (
             "image zero\ncase a\nname A 1\nreturn\nagain\nname B 1\n",

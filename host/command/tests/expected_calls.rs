@@ -1,4 +1,4 @@
-//! `expect` after `wait`, `bound`, `run` and `view`, and refusals before any step.
+//! `expect` after `wait`, `bound`, `handler bound`, `run` and `view`, and refusals before any step.
 
 #[path = "support/blocks.rs"]
 mod blocks;
@@ -78,7 +78,7 @@ fn waits() {
 #[test]
 fn waits_and_bounds_for_sources_that_are_not_there() {
     for source in ["CH0", "channel 0", "8", "19", "4294967295"] {
-        for call in ["wait", "bound"] {
+        for call in ["wait", "bound", "handler bound"] {
             let block = format!(
                 "{call} {source}\n+ refused 4\n+ refused 4 before any step\n- refused 3\n- refused 3 before any step\n- refused 2\n- refused 3 at step 0\n\
                  - never\n- none\n- none: not pending\n- acknowledged\nread R256\nexpect refused 3"
@@ -120,8 +120,8 @@ fn bounds() {
     assert_table(START, BOUNDS);
 }
 
-/// The premises of demand 3 in the order of the help. Each has what makes it the first that fails, for INTC0, which the
-/// blocks have pending.
+/// The premises that both claims have, in the order of the help. Each has what makes it the first that fails, for INTC0,
+/// which the blocks have pending.
 const PREMISES: [(&str, &str, &str); 9] = [
     ("nested mode", "set CICR 9Fh", "arbitrate"),
     ("DMA enabled", "set R240.p10 10h", "arbitrate"),
@@ -130,24 +130,43 @@ const PREMISES: [(&str, &str, &str); 9] = [
     ("not pending", "set EIPR EFh", "arbitrate"),
     ("masked", "set EIMR EFh", "arbitrate"),
     ("level not above", "set CICR 94h", "arbitrate"),
-    ("other step at step 2", "set R1 1", "arbitrate\nreturn\nread EIPR\nreset"),
+    ("other step at step 2", "set R1 1", "return\nreturn\nreset\nread EIPR"),
     (
         "interrupts disabled at step 2",
-        "set R1 1",
-        "arbitrate\nedge INTB0 falling\narbitrate\nreturn",
+        "set CICR 87h",
+        "edge INTB0 falling\nedge INTB0 falling\narbitrate\nreturn",
     ),
 ];
 
+/// What a write may not change, each with such a write.
+const CHANGES: [(&str, &str); 7] = [
+    ("erased", "write EIPR 04h"),
+    ("mode changed", "write CICR 9Fh"),
+    ("current level changed", "write CICR 96h"),
+    ("top level changed", "write CICR B7h"),
+    ("mask changed", "write EIMR FEh"),
+    ("DMA enable changed", "write R240 10h"),
+    ("level changed", "write EIPLR E5h"),
+];
+
+/// INTC0 pending, two records without DMA.
+fn without_dma() -> String {
+    format!("{RECORDS}set R240.p9 00h\nset R240.p10 00h\nset EIPR 10h\n")
+}
+
 #[test]
 fn premises_of_bounds() {
-    let head = format!("{RECORDS}set R240.p9 00h\nset R240.p10 00h\nset EIPR 10h\n");
+    let head = without_dma();
     for (premise, set, steps) in PREMISES {
-        let mut block =
-            format!("{set}\nbound INTC0\n+ none: {premise}\n+ none {premise}\n+ none\n");
+        let expected = format!("+ none: {premise}\n+ none {premise}\n+ none\n");
+        let mut block = format!("{set}\nbound INTC0\n{expected}");
         for (other, ..) in PREMISES {
             if other != premise {
                 block.push_str(&format!("- none: {other}\n"));
             }
+        }
+        for (other, _) in CHANGES {
+            block.push_str(&format!("- none: {other}\n- none: {other} at step 2\n"));
         }
         if let Some((kind, _)) = premise.split_once(" at step 2") {
             block.push_str(&format!("- none: {kind} at step 1\n- none: {kind} at step 3\n"));
@@ -158,11 +177,90 @@ fn premises_of_bounds() {
         );
         block.push_str(&format!("- refused 4\n- never\n{steps}"));
         assert_table(&head, &block);
+        assert_table(&head, &block.replace("bound INTC0", "handler bound INTC0"));
     }
     // Step numbers are those of the case, not of the call.
     let later = "edge INTD0 falling\nread R0\nbound INTC0\n+ none: other step at step 3\n\
                  - none: other step at step 1\n- none: other step at step 2\narbitrate\nread R0";
     assert_table(&head, later);
+}
+
+/// After `bound` either claim's premise is met, after `handler bound` its own alone.
+#[test]
+fn changes_by_writes() {
+    for (change, write) in CHANGES {
+        let mut own =
+            format!("+ none: {change} at step 3 | none: {change} | none {change} | none\n");
+        own.push_str(&format!("- none: {change} at step 2 | none: {change} at step 0\n"));
+        for (other, _) in CHANGES.iter().filter(|(other, _)| *other != change) {
+            own.push_str(&format!("- none: {other} at step 3 | none: {other}\n"));
+        }
+        own.push_str("- none: other step at step 3 | none: interrupts disabled at step 3\n");
+        own.push_str("- by arbitration 1 at the latest | none: masked | none: level not above\n");
+        // The write of IDCR goes to page 9, all others to page 0.
+        let page = if write.contains("R240") { "24h" } else { "00h" };
+        let steps = format!("read CICR\nread CICR\n{write}\narbitrate");
+        let block = |call| format!("set PPR {page}\nreturn\n{call} INTC0\n{own}");
+        let handlers = format!("{}- none: other step at step 1\n{steps}", block("handler bound"));
+        assert_table(&without_dma(), &handlers);
+        let both = format!("{}+ none: other step at step 1\n{steps}", block("bound"));
+        assert_table(&without_dma(), &both);
+    }
+}
+
+/// Where demand 3 does not speak of a step and the handlers' claim gives a bound, `bound` has both answers.
+const BOUNDS_OF_BOTH_CLAIMS: &str = "\
+set EIPR 14h
+bound INTC0
++ by arbitration 3 at the latest H 1 E 1 | by arbitration 3 at the latest | none: other step at step 1
++ none: other step
+- none | none: other step at step 0 | none: other step at step 2 | by arbitration 2 at the latest
+- by arbitration 3 at the latest H 0 E 1 | by arbitration 3 at the latest H 1 E 2 | none: erased at step 1
+- none: interrupts disabled at step 1
+arbitrate
+write EIPR 14h
+return
+arbitrate
+return
+arbitrate
+
+set EIPR 14h
+handler bound INTC0
++ by arbitration 3 at the latest H 1 E 1 | by arbitration 3 at the latest
+- none | none: other step at step 1 | none: other step | by arbitration 2 at the latest
+- by arbitration 3 at the latest H 0 E 1 | by arbitration 3 at the latest H 1 E 2
+arbitrate
+write EIPR 14h
+return
+arbitrate
+return
+arbitrate
+
+set EIPR 10h
+bound INTC0
++ none: interrupts disabled at step 1 | by arbitration 1 at the latest H 0 E 0
+- none | none: interrupts disabled at step 0 | none: other step at step 1
+arbitrate
+arbitrate
+
+set EIPR 10h
+bound INTC0
++ by arbitration 2 at the latest H 0 E 1
+- by arbitration 1 at the latest H 0 E 0 | by arbitration 1 at the latest
+arbitrate
+edge INTB0 falling
+
+set EIPR 10h
+handler bound INTC0
++ by arbitration 1 at the latest H 0 E 0
+- by arbitration 2 at the latest H 0 E 1 | by arbitration 2 at the latest
+arbitrate
+edge INTB0 falling
+";
+
+#[test]
+fn bounds_of_both_claims() {
+    assert_table(START, BOUNDS_OF_BOTH_CLAIMS);
 }
 
 /// A run has the answer of its last step: of every kind.
@@ -407,7 +505,8 @@ fn images_by_their_bytes() {
 #[test]
 fn images_of_another_length() {
     let steps = "read R0 | write R0 1 | edge 9 9 | watchdog | nmi 2 | request 9 | arbitrate | return | reset \
-                 | step FFFFFFFFFFFFFFFFh | run | wait INTA0 | wait 99 | bound INTA0 | bound 99 | view 0 | view 64";
+                 | step FFFFFFFFFFFFFFFFh | run | wait INTA0 | wait 99 | bound INTA0 | bound 99 | handler bound INTA0 \
+                 | handler bound 99 | view 0 | view 64";
     let bad = "channel page=0 idcr=1 ivr=1 dcpr=1 dapr=1 data=1 direction=7\n";
     for image in ["zero 1264", "zero 0", "zero 1266", "fill A5h 1264", "counted 4096", "zero 1"] {
         for list in ["", bad] {
@@ -448,7 +547,7 @@ fn list(rows: &str) -> String {
 
 fn assert_list(good: &str, bad: &str) {
     let steps = "read R0 | write R0 1 | edge 9 9 | arbitrate | reset | step FFFFFFFFFFFFFFFFh | run | wait INTA0 \
-                 | wait 99 | bound INTA0 | bound 99";
+                 | wait 99 | bound INTA0 | bound 99 | handler bound INTA0 | handler bound 99";
     let refused = |step: &str| {
         format!("{}\n+ refused 2\n- refused 1\n- refused 4\n- refused 3\n- refused 2 at step 0\n- none\n\n", step.trim())
     };

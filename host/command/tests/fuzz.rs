@@ -9,7 +9,7 @@ use support::{examples, is_json, st9_in, Random};
 const PARSES: usize = 100_000;
 const RUNS: usize = 600;
 
-const WORDS: [&str; 92] = [
+const WORDS: [&str; 94] = [
     "image",
     "zero",
     "set",
@@ -95,6 +95,8 @@ const WORDS: [&str; 92] = [
     "FAN",
     "wait",
     "bound",
+    "handler",
+    "handler bound",
     "run",
     "view",
     "IEN=1",

@@ -56,7 +56,7 @@ fn objects_of_waits() {
         st9(&["wait", "-", "--source", "3", "--json"], scenario).with_code(code).out
     };
     let expected = r#"{"type":"wait","source":3,"name":"INTB1","result":"ended","arbitrations":1}
-{"type":"bound","source":3,"name":"INTB1","result":"fails","premise":"the source is not pending","step":null,"line":null}
+{"type":"bound","source":3,"name":"INTB1","claim":"demand 3","result":"fails","premise":"the source is not pending","step":null,"line":null}
 "#;
     assert_eq!(report("image zero\narbitrate\n", 0), expected);
     let refused = report("image zero\narbitrate\nread R256\n", 1);
@@ -65,12 +65,69 @@ fn objects_of_waits() {
     // The reset erases the source, and the account of the list says so.
     let erased = report(other, 0);
     let lines: Vec<_> = erased.lines().collect();
-    assert!(lines[1].ends_with(",\"step\":0,\"line\":5}"), "{erased}");
-    assert!(lines[2].starts_with("{\"type\":\"account\",\"source\":3,") && lines.len() == 3);
-    assert!(lines[2].contains("\"erased\":1,\"lines\":[5],"), "{erased}");
+    for (line, start) in
+        [(lines[1], "{\"type\":\"bound\""), (lines[2], "{\"type\":\"handler bound\"")]
+    {
+        assert!(line.starts_with(start) && line.ends_with(",\"step\":0,\"line\":5}"), "{erased}");
+    }
+    assert!(lines[3].starts_with("{\"type\":\"account\",\"source\":3,") && lines.len() == 4);
+    assert!(lines[3].contains("\"erased\":1,\"lines\":[5],"), "{erased}");
     let acknowledged = report(&other.replace("reset", "return\n# x\narbitrate"), 0);
     let wait = r#"{"type":"wait","source":3,"name":"INTB1","result":"acknowledged","arbitrations":1,"step":1,"line":7}"#;
     assert!(acknowledged.starts_with(wait), "{acknowledged}");
+}
+
+/// A bound that both claims were asked for has two objects, each with its own answer and words.
+#[test]
+fn objects_of_bounds() {
+    let head = "image zero\nset CICR 97h\nset EIPR 18h\nset EIMR 18h\nset EIPLR E4h\nreturn\n";
+    let steps = "read EIPR\nwrite EIPR 10h\nexpect erased INTB1\narbitrate\n";
+    let objects = |asked: &str| -> Vec<String> {
+        let ran = st9(&["run", "--json", "-"], &format!("{head}{asked}\n{steps}")).with_code(0);
+        assert_lines(&ran.out);
+        let bounds = ran.out.lines().filter(|line| line.contains("bound\",\"at\":7"));
+        bounds.map(String::from).collect()
+    };
+    let start = |kind: &str, claim: &str, source: &str| {
+        format!(r#"{{"type":"{kind}","at":7,"from":1,{source},"claim":"{claim}","result":"#)
+    };
+    let (ours, other) = (r#""source":4,"name":"INTC0""#, r#""source":3,"name":"INTB1""#);
+    let premise = "a step that is no trigger, arbitration or return";
+    let demand3 = format!(
+        r#""fails","premise":"{premise}","step":1,"line":8,"words":"none, as a premise fails: {premise} at step 1 (line 8: read EIPR)"}}"#
+    );
+    let within = r#""within","outranking":1,"triggers":0,"bound":2,"words":"by arbitration 2 at the latest, H 1, E 0 (the handlers' claim, if the list has so many; H: outranking sources pending at the start, E: triggers of outranking sources and bits of theirs that writes raise, up to the acknowledgement)"}"#;
+    let erased = r#""fails","premise":"a write that erases the source's pending bit","changed":"pending","step":2,"line":9,"words":"none, as a premise fails: the write at step 2 (line 9: write EIPR 10h) erases the source's pending bit"}"#;
+    let handlers = |source| start("handler bound", "handlers", source);
+    let bound = |source| format!("{}{demand3}", start("bound", "demand 3", source));
+    assert_eq!(objects("bound INTC0"), [bound(ours), format!("{}{within}", handlers(ours))]);
+    assert_eq!(objects("bound INTB1"), [bound(other), format!("{}{erased}", handlers(other))]);
+    assert_eq!(objects("handler bound INTC0"), [format!("{}{within}", handlers(ours))]);
+}
+
+/// What a write changed that the handlers' claim rests on.
+#[test]
+fn objects_of_changes() {
+    let record = "channel page=9 idcr=240 ivr=241 dcpr=242 dapr=243 data=244 in\n";
+    let head = format!("image zero\n{record}set CICR 97h\nset EIPR 10h\nset EIMR 10h\n");
+    let rows = [
+        ("write EIPR 00h", "pending"),
+        ("write CICR 9Fh", "mode"),
+        ("write CICR 96h", "current level"),
+        ("write NICR 80h", "top level"),
+        ("write EIMR 00h", "mask"),
+        ("write PPR 24h\nwrite R240 10h", "DMA enable"),
+        ("write EIPLR E4h", "level"),
+    ];
+    for (steps, changed) in rows {
+        let scenario = format!("{head}handler bound INTC0\n{steps}\n");
+        let ran = st9(&["run", "--json", "-"], &scenario).with_code(0);
+        let object = ran.out.lines().next().expect("an object");
+        assert!(object.contains(&format!("\"changed\":\"{changed}\"")), "{object}");
+        let ran = st9(&["wait", "--json", "-", "--source", "INTC0"], &scenario).with_code(0);
+        let object = ran.out.lines().nth(2).expect("an object");
+        assert!(object.contains(&format!("\"changed\":\"{changed}\"")), "{object}");
+    }
 }
 
 #[test]

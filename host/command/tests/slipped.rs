@@ -47,6 +47,16 @@ impl Model for Slipped {
         st9::bound(image, channels, source, words)
     }
 
+    fn handler_bound(
+        &self,
+        image: &[u8],
+        channels: &[Channel],
+        source: Source,
+        words: &[u64],
+    ) -> Result<Bound, Refusal> {
+        st9::handler_bound(image, channels, source, words)
+    }
+
     fn view<'a>(&self, image: &'a [u8], page: u32) -> Result<&'a [u8], Refusal> {
         st9::view(image, page)
     }
@@ -110,7 +120,7 @@ fn steps() {
 /// A call is on a copy: the case has the image as it was.
 #[test]
 fn calls_before_any_step() {
-    for (call, met) in [("wait 99", false), ("bound 99", true)] {
+    for (call, met) in [("wait 99", false), ("bound 99", true), ("handler bound 99", true)] {
         let statements =
             format!("image zero\n{call}\nexpect refused 4\nread R1\nexpect EIPR 00h\n");
         assert_eq!(assert_met(&statements, &[met, true]).end, End::Done);

@@ -113,7 +113,9 @@ fn never_and_late() {
 /// A refused call that ends the case is told with its number, whatever the option.
 #[test]
 fn quiet_tells_the_call_that_is_refused() {
-    for (call, number) in [("view 64", 3), ("wait CH0", 4), ("bound CH0", 4)] {
+    for (call, number) in
+        [("view 64", 3), ("wait CH0", 4), ("bound CH0", 4), ("handler bound CH0", 4)]
+    {
         for option in ["--quiet", "--verbose"] {
             let scenario = format!("{START}{call}\narbitrate\n");
             let ran = st9(&["run", "-", option], &scenario).with_code(1);
@@ -342,7 +344,7 @@ fn names_of_the_other_kind_of_source() {
 /// A wait report is over the steps alone: a call that is refused before them hides no alarm.
 #[test]
 fn waits_pass_over_calls() {
-    for call in ["view 64", "bound 9", "wait CH0", "read R1\nexpect byte 1"] {
+    for call in ["view 64", "bound 9", "handler bound 9", "wait CH0", "read R1\nexpect byte 1"] {
         let scenario = format!("{START}{call}\nedge INTB0 falling\n");
         for option in [&["--fail-on", "never"], &["--within", "1"]] {
             let ran = st9(&[&["wait", "-"], &option[..]].concat(), &scenario).with_code(3);

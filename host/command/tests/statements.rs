@@ -89,6 +89,7 @@ fn calls_names_and_cases() {
     for source in [0, 7, 8, 19, 20, u32::MAX] {
         assert_read_again(&Statement::Call(Call::Wait(Source(source))));
         assert_read_again(&Statement::Call(Call::Bound(Source(source))));
+        assert_read_again(&Statement::Call(Call::HandlerBound(Source(source))));
         assert_read_again(&Statement::Call(Call::View(source)));
         assert_read_again(&Statement::Name("FAN-1".to_string(), Source(source)));
     }

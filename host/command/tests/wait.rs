@@ -1,4 +1,4 @@
-//! The wait report beside the bound: each premise of demand 3 that fails, and the bound.
+//! The wait report beside the bound: each premise that fails, and the bound, of demand 3 and of the handlers' claim.
 
 mod support;
 
@@ -41,48 +41,133 @@ fn premises_of_the_start() {
     }
 }
 
+/// Steps that neither claim speaks of.
 #[test]
 fn premises_of_the_steps() {
+    let beside = |step: &str| format!("(the handlers' claim; demand 3 does not speak of {step})");
     let cases = [
         (
-            "arbitrate\nread CICR\n",
-            "a step that is no trigger, arbitration or return at step 1 (line 8: read CICR)",
+            "read CICR\nreset\narbitrate\n",
+            "a step that is no trigger, arbitration, return, read or write at step 1 (line 8: reset)",
+            &*beside("step 0 (line 7: read CICR)"),
         ),
         (
-            "arbitrate\narbitrate\n",
+            "reset\narbitrate\n",
+            "a step that is no trigger, arbitration or return at step 0 (line 7: reset)",
+            "",
+        ),
+        (
+            "write EIMR 00h\narbitrate\n",
+            "the write at step 0 (line 7: write EIMR 00h) changes a source's mask",
+            &beside("step 0"),
+        ),
+        (
+            "read CICR\nwrite EIMR 00h\narbitrate\n",
+            "the write at step 1 (line 8: write EIMR 00h) changes a source's mask",
+            &beside("step 0 (line 7: read CICR)"),
+        ),
+        (
+            "write CICR 87h\narbitrate\n",
             "an arbitration with interrupts disabled (IEN = 0) at step 1 (line 8: arbitrate)",
-        ),
-        (
-            "arbitrate\narbitrate\nwrite EIPR 00h\n",
-            "a step that is no trigger, arbitration or return at step 2 (line 9: write EIPR 00h)",
+            &beside("step 0 (line 7: write CICR 87h)"),
         ),
     ];
-    for (steps, premise) in cases {
+    for (steps, premise, beside) in cases {
         let scenario = format!("{START}{steps}");
-        assert_report(&scenario, FIRST, &format!("none, as a premise fails: {premise}"));
+        let bound = format!("none, as a premise fails: {premise} {beside}");
+        let ran = st9(&["wait", "-", "--source", "INTB0"], &scenario).with_code(0);
+        let line = ran.out.lines().nth(1);
+        assert_eq!(line, Some(&*format!("bound: {}", bound.trim_end())), "{scenario}");
     }
+    let disabled = format!("{}arbitrate\n", START.replace("97h", "87h"));
+    let premise = "an arbitration with interrupts disabled (IEN = 0) at step 0 (line 7: arbitrate)";
+    assert_report(&disabled, NEVER, &format!("none, as a premise fails: {premise}"));
 }
 
 fn within(outranking: u32, triggers: u32) -> String {
     format!(
         "by arbitration {} at the latest, H {outranking}, E {triggers} \
-         (if the list has so many; H: outranking sources pending at the start, E: triggers of outranking sources in the list)",
+         (demand 3, if the list has so many; H: outranking sources pending at the start, E: triggers of outranking sources in the list)",
         outranking + triggers + 1
     )
+}
+
+/// The same by the handlers' claim.
+fn within_handlers(outranking: u32, triggers: u32, beside: &str) -> String {
+    let counted = "E: triggers of outranking sources and bits of theirs that writes raise, up to the acknowledgement";
+    let demand3 = format!(
+        "the handlers' claim, if the list has so many; demand 3 does not speak of {beside}"
+    );
+    within(outranking, triggers)
+        .replace("demand 3, if the list has so many", &demand3)
+        .replace("E: triggers of outranking sources in the list", counted)
+}
+
+/// INTA0 and INTA1 at levels 0 and 1 outrank INTB0; pin 0 counts with IAOS = 1.
+fn outranked() -> String {
+    START.replace("E7h", "E4h").replace("EIPR 04h", "EIPR 07h").replace("EIMR 04h", "EIMR 07h")
 }
 
 #[test]
 fn bounds() {
     assert_report(&format!("{START}arbitrate\n"), FIRST, &within(0, 0));
     assert_report(START, "not acknowledged, the list ended after 0 arbitrations", &within(0, 0));
-    // INTA0 and INTA1 at levels 0 and 1 outrank INTB0; pin 0 counts with IAOS = 1.
-    let outranked =
-        START.replace("E7h", "E4h").replace("EIPR 04h", "EIPR 07h").replace("EIMR 04h", "EIMR 07h");
     let steps = "arbitrate\nedge INTA0 falling\nedge INTA0 falling\nreturn\narbitrate\nreturn\narbitrate\nreturn\narbitrate\n";
     assert_report(
-        &format!("{outranked}{steps}"),
+        &format!("{}{steps}", outranked()),
         "acknowledged by arbitration 4 at step 8 (line 15)",
         &within(2, 2),
+    );
+}
+
+/// Steps that the handlers' claim speaks of and demand 3 does not.
+#[test]
+fn bounds_by_the_handlers_claim() {
+    let cases = [
+        ("arbitrate\nread CICR\n", "step 1 (line 8: read CICR)"),
+        ("arbitrate\nreset\n", "step 1 (line 8: reset)"),
+        ("arbitrate\narbitrate\n", "step 1 (line 8: arbitrate) with interrupts disabled"),
+        ("arbitrate\narbitrate\nwrite EIPR 00h\n", "step 2 (line 9: write EIPR 00h)"),
+    ];
+    for (steps, beside) in cases {
+        assert_report(&format!("{START}{steps}"), FIRST, &within_handlers(0, 0, beside));
+    }
+    let steps =
+        "arbitrate\nwrite EIPR 07h\nreturn\narbitrate\nreturn\narbitrate\nreturn\narbitrate\n";
+    assert_report(
+        &format!("{}{steps}", outranked()),
+        "acknowledged by arbitration 4 at step 7 (line 14)",
+        &within_handlers(2, 1, "step 1 (line 8: write EIPR 07h)"),
+    );
+}
+
+/// The table of all sources has the claim of each bound.
+#[test]
+fn the_table_tells_the_claims() {
+    let heads = "set EIPR 14h\nset EIMR 14h\n";
+    let table = |steps: &str| {
+        let ran = st9(&["wait", "-"], &format!("{START}{heads}{steps}")).with_code(0);
+        ran.out.lines().filter(|line| line.starts_with("INT")).map(String::from).collect::<Vec<_>>()
+    };
+    let ends = |rows: Vec<String>, ends: [&str; 2]| {
+        assert_eq!(rows.len(), 2);
+        for (row, end) in rows.iter().zip(ends) {
+            assert!(row.ends_with(end), "{row}");
+        }
+    };
+    ends(
+        table("arbitrate\nreturn\narbitrate\n"),
+        [
+            "  by arbitration 1 at the latest, H 0, E 0 (demand 3)",
+            "  by arbitration 2 at the latest, H 1, E 0 (demand 3)",
+        ],
+    );
+    ends(
+        table("arbitrate\nwrite EIPR 00h\n"),
+        [
+            "  by arbitration 1 at the latest, H 0, E 0 (the handlers' claim)",
+            "  none, as a premise fails: the write at step 1 (line 10: write EIPR 00h) erases the source's pending bit (the handlers' claim)",
+        ],
     );
 }
 

@@ -1,8 +1,8 @@
 //! Answers in words: nothing here calls the model.
 
-use scenario::{bound_explained, statement, Names, Report, Statement, StepLine};
+use scenario::{statement, Bounds, Claim, Claimed, List, Names, Report, Statement, StepLine};
 use st9::Effect::{Merged, NotSelected, Raised};
-use st9::{Answer, Bound, Channel, Effect, Premise, Refusal, Source};
+use st9::{Answer, Basis, Bound, Channel, Effect, Premise, Refusal, Source};
 
 const CHANNEL: Channel =
     Channel { page: 9, idcr: 240, ivr: 241, dcpr: 242, dapr: 243, data: 244, direction: 0 };
@@ -263,17 +263,111 @@ fn returns() {
     }
 }
 
+const WITHIN: Bound = Bound::Within { outranking: 1, triggers: 2, bound: 4 };
+
+/// The explanations of a bound, what stands between the claim and what H and E are left out.
+fn within(claim: &str, beside: &str) -> String {
+    let triggers = match claim {
+        "demand 3" => "triggers of outranking sources in the list",
+        _ => "triggers of outranking sources and bits of theirs that writes raise, up to the acknowledgement",
+    };
+    format!(
+        "by arbitration 4 at the latest, H 1, E 2 ({claim}, if the list has so many; {beside}\
+         H: outranking sources pending at the start, E: {triggers})"
+    )
+}
+
 #[test]
-fn bounds() {
-    let within = Bound::Within { outranking: 1, triggers: 2, bound: 4 };
-    let words = "by arbitration 4 at the latest, H 1, E 2 \
-                 (if the list has so many; H: outranking sources pending at the start, E: triggers of outranking sources in the list)";
-    assert_eq!(bound_explained(within, &[], 0), words);
-    let steps = [step("return"), step("arbitrate"), step("write EIPR 0")];
-    let words = "none, as a premise fails: a step that is no trigger, arbitration or return \
-                 at step 2 (line 12: write EIPR 00h)";
-    for (index, from) in [(2, 0), (1, 1)] {
-        let fails = Bound::Fails(Premise::OtherStep { index });
-        assert_eq!(bound_explained(fails, &steps, from), words);
+fn bounds_of_one_claim() {
+    let list = List { steps: &[], from: 0 };
+    for (claim, name) in [(Claim::Demand3, "demand 3"), (Claim::Handlers, "the handlers' claim")] {
+        let claimed = |bound| Claimed { claim, bound };
+        assert_eq!(claimed(WITHIN).explained(list), within(name, ""));
+        assert_eq!(claimed(WITHIN).words(list), "by arbitration 4 at the latest, H 1, E 2");
+        let fails = claimed(Bound::Fails(Premise::Masked));
+        assert_eq!(fails.explained(list), "none, as a premise fails: the source is masked");
     }
+}
+
+/// A premise of steps has the step, counted from the start of the case, and its line.
+#[test]
+fn premises_of_steps() {
+    let steps = [step("return"), step("arbitrate"), step("write EIPR 0")];
+    let told = |claim, premise, from| {
+        let claimed = Claimed { claim, bound: Bound::Fails(premise) };
+        claimed.explained(List { steps: &steps, from })
+    };
+    for (index, from) in [(2, 0), (1, 1)] {
+        let place = "at step 2 (line 12: write EIPR 00h)";
+        let other = Premise::OtherStep { index };
+        let words = "none, as a premise fails: a step that is no trigger, arbitration";
+        assert_eq!(told(Claim::Demand3, other, from), format!("{words} or return {place}"));
+        assert_eq!(
+            told(Claim::Handlers, other, from),
+            format!("{words}, return, read or write {place}")
+        );
+    }
+    let disabled = Premise::InterruptsDisabled { index: 0 };
+    let words = "none, as a premise fails: an arbitration with interrupts disabled (IEN = 0) at step 1 (line 12: arbitrate)";
+    assert_eq!(told(Claim::Demand3, disabled, 1), words);
+    assert_eq!(told(Claim::Handlers, disabled, 1), words);
+}
+
+#[test]
+fn writes_that_change_what_a_bound_rests_on() {
+    let expected = [
+        (Basis::Pending, "erases the source's pending bit"),
+        (Basis::Mode, "changes the mode (IAM)"),
+        (Basis::CurrentLevel, "changes the current level (CPL)"),
+        (Basis::TopLevel, "changes the top level's enables (TLI or TLNM)"),
+        (Basis::Mask, "changes a source's mask"),
+        (Basis::DmaEnable, "changes a channel's DMA enable (DM)"),
+        (Basis::Level, "changes a source's level"),
+    ];
+    let steps = [step("write EIPR 0")];
+    for (basis, words) in expected {
+        let bound = Bound::Fails(Premise::Changed { basis, index: 0 });
+        let claimed = Claimed { claim: Claim::Handlers, bound };
+        let told = claimed.explained(List { steps: &steps, from: 0 });
+        let place = "the write at step 0 (line 12: write EIPR 00h)";
+        assert_eq!(told, format!("none, as a premise fails: {place} {words}"));
+    }
+}
+
+/// Both claims: the one that says more is told, and why demand 3 does not speak.
+#[test]
+fn bounds_of_both_claims() {
+    let steps = [step("read EIPR"), step("write EIPR 0"), step("arbitrate")];
+    let list = List { steps: &steps, from: 0 };
+    let told = |demand3, handlers| {
+        let bounds = Bounds { demand3, handlers };
+        (bounds.explained(list), bounds.words(list))
+    };
+    let by = "by arbitration 4 at the latest, H 1, E 2";
+    let (claim, none) = ("the handlers' claim", "none, as a premise fails:");
+    let both = |long: String, short: String| (long, short);
+    assert_eq!(told(WITHIN, None), both(within("demand 3", ""), format!("{by} (demand 3)")));
+    let read = Bound::Fails(Premise::OtherStep { index: 0 });
+    let beside = "demand 3 does not speak of step 0 (line 12: read EIPR)";
+    let expected = both(within(claim, &format!("{beside}; ")), format!("{by} ({claim})"));
+    assert_eq!(told(read, Some(WITHIN)), expected);
+    let disabled = Bound::Fails(Premise::InterruptsDisabled { index: 2 });
+    let arbitrates =
+        "demand 3 does not speak of step 2 (line 12: arbitrate) with interrupts disabled; ";
+    let expected = both(within(claim, arbitrates), format!("{by} ({claim})"));
+    assert_eq!(told(disabled, Some(WITHIN)), expected);
+    let erased = Bound::Fails(Premise::Changed { basis: Basis::Pending, index: 1 });
+    let words = format!(
+        "{none} the write at step 1 (line 12: write EIPR 00h) erases the source's pending bit"
+    );
+    let expected = both(format!("{words} ({claim}; {beside})"), format!("{words} ({claim})"));
+    assert_eq!(told(read, Some(erased)), expected);
+    // The line of one step is told once, and what fails of both claims alike once.
+    let write = Bound::Fails(Premise::OtherStep { index: 1 });
+    let beside = "demand 3 does not speak of step 1";
+    assert_eq!(told(write, Some(erased)).0, format!("{words} ({claim}; {beside})"));
+    let words = format!(
+        "{none} an arbitration with interrupts disabled (IEN = 0) at step 2 (line 12: arbitrate)"
+    );
+    assert_eq!(told(disabled, Some(disabled)), both(words.clone(), words));
 }

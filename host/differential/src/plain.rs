@@ -61,14 +61,7 @@ impl Model for Plain {
         bounded(model::bound(image, &records(channels), source.0, words))
     }
 
-    fn view<'a>(&self, image: &'a [u8], page: u32) -> Result<&'a [u8], Refusal> {
-        model::view(image, page).map_err(refusal)
-    }
-}
-
-impl Plain {
-    /// The handlers' bound.
-    pub fn handler_bound(
+    fn handler_bound(
         &self,
         image: &[u8],
         channels: &[Channel],
@@ -76,6 +69,10 @@ impl Plain {
         words: &[u64],
     ) -> Result<Bound, Refusal> {
         bounded(model::handler_bound(image, &records(channels), source.0, words))
+    }
+
+    fn view<'a>(&self, image: &'a [u8], page: u32) -> Result<&'a [u8], Refusal> {
+        model::view(image, page).map_err(refusal)
     }
 }
 

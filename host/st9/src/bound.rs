@@ -96,7 +96,7 @@ impl Basis {
 impl fmt::Display for Basis {
     fn fmt(&self, f: &mut fmt::Formatter<'_>) -> fmt::Result {
         f.write_str(match self {
-            Basis::Pending => "the source's pending bit, erased unserved",
+            Basis::Pending => "the source's pending bit",
             Basis::Mode => "the mode (IAM)",
             Basis::CurrentLevel => "the current level (CPL)",
             Basis::TopLevel => "the top level's enables (TLI or TLNM)",
@@ -132,6 +132,9 @@ impl fmt::Display for Premise {
             Premise::OtherStep { .. } => "a step that is no trigger, arbitration or return",
             Premise::InterruptsDisabled { .. } => {
                 "an arbitration with interrupts disabled (IEN = 0)"
+            }
+            Premise::Changed { basis: Basis::Pending, .. } => {
+                "a write that erases the source's pending bit"
             }
             Premise::Changed { basis, .. } => return write!(f, "a write that changes {basis}"),
         };

@@ -10,6 +10,7 @@ _Static_assert(sizeof(st9_answer) == 48, "an answer is six numbers");
 _Static_assert(offsetof(st9_answer, refusal) == 8 && offsetof(st9_answer, steps) == 16, "in this order");
 _Static_assert(offsetof(st9_answer, byte) == 24 && offsetof(st9_answer, lost) == 24 && offsetof(st9_answer, maskable) == 24, "first");
 _Static_assert(offsetof(st9_answer, source) == 24 && offsetof(st9_answer, arbitrations) == 24 && offsetof(st9_answer, outranking) == 24, "first");
+_Static_assert(offsetof(st9_answer, changed) == 24, "first");
 _Static_assert(offsetof(st9_answer, tlip) == 32 && offsetof(st9_answer, level) == 32 && offsetof(st9_answer, ended) == 32, "second");
 _Static_assert(offsetof(st9_answer, triggers) == 32 && offsetof(st9_answer, vector) == 40 && offsetof(st9_answer, bound) == 40, "second, third");
 _Static_assert(offsetof(st9_channel, data) == 5 && offsetof(st9_channel, direction) == 6, "the order of a record");
@@ -48,6 +49,18 @@ static void kinds(void)
     LINE(ST9_OTHER_STEP);
     LINE(ST9_INTERRUPTS_DISABLED);
     LINE(ST9_WITHIN);
+    LINE(ST9_CHANGED);
+}
+
+static void changes(void)
+{
+    LINE(ST9_CHANGED_PENDING);
+    LINE(ST9_CHANGED_MODE);
+    LINE(ST9_CHANGED_CURRENT_LEVEL);
+    LINE(ST9_CHANGED_TOP_LEVEL);
+    LINE(ST9_CHANGED_MASK);
+    LINE(ST9_CHANGED_DMA_ENABLE);
+    LINE(ST9_CHANGED_LEVEL);
 }
 
 static void refusals_and_effects(void)
@@ -141,6 +154,9 @@ static void calls(void)
     memcpy(other, image, sizeof image);
 
     answer("bound", st9_bound(image, sizeof image, bytes, sizeof list, ST9_FIRST_CHANNEL, list_of_steps, 3));
+    const uint64_t handler[] = {st9_read(ST9_EIPR), st9_write(ST9_EIPR, 0), st9_arbitrate()};
+    answer("handler bound", st9_handler_bound(image, sizeof image, bytes, sizeof list, ST9_FIRST_CHANNEL, handler, 3));
+    answer("handler bound of what is erased", st9_handler_bound(image, sizeof image, bytes, sizeof list, ST9_INTA0, handler, 3));
     answer("wait", st9_wait(other, sizeof other, bytes, sizeof list, ST9_FIRST_CHANNEL, list_of_steps, 3));
     answer("step", st9_step(image, sizeof image, bytes, sizeof list, st9_arbitrate()));
     answer("run", st9_run(image, sizeof image, bytes, sizeof list, list_of_steps + 1, 2));
@@ -156,6 +172,7 @@ static void calls(void)
 int main(void)
 {
     kinds();
+    changes();
     refusals_and_effects();
     sizes_sources_directions();
     registers_and_bits();

@@ -34,7 +34,7 @@ const fn word(kind: u64, trigger: u64, first: u64, second: u64) -> u64 {
 }
 
 /// The kinds of answers, as this crate has them.
-const KINDS: [(&str, u64); 25] = [
+const KINDS: [(&str, u64); 26] = [
     ("ST9_NO_STEP", sys::NO_STEP),
     ("ST9_BYTE", sys::BYTE),
     ("ST9_WRITTEN", sys::WRITTEN),
@@ -60,6 +60,18 @@ const KINDS: [(&str, u64); 25] = [
     ("ST9_OTHER_STEP", sys::OTHER_STEP),
     ("ST9_INTERRUPTS_DISABLED", sys::INTERRUPTS_DISABLED),
     ("ST9_WITHIN", sys::WITHIN),
+    ("ST9_CHANGED", sys::CHANGED),
+];
+
+/// What a write changed, likewise.
+const CHANGES: [(&str, u64); 7] = [
+    ("ST9_CHANGED_PENDING", sys::CHANGED_PENDING),
+    ("ST9_CHANGED_MODE", sys::CHANGED_MODE),
+    ("ST9_CHANGED_CURRENT_LEVEL", sys::CHANGED_CURRENT_LEVEL),
+    ("ST9_CHANGED_TOP_LEVEL", sys::CHANGED_TOP_LEVEL),
+    ("ST9_CHANGED_MASK", sys::CHANGED_MASK),
+    ("ST9_CHANGED_DMA_ENABLE", sys::CHANGED_DMA_ENABLE),
+    ("ST9_CHANGED_LEVEL", sys::CHANGED_LEVEL),
 ];
 
 const REFUSALS_AND_EFFECTS: [(&str, u64); 11] = [
@@ -138,6 +150,8 @@ const WORDS: [(&str, u64); 13] = [
 /// Kind, refusal, steps and values by the table of the header, worked out from document 01.
 const CALLS: &str = "\
 bound: 24 0 0 1 0 2
+handler bound: 24 0 0 1 0 2
+handler bound of what is erased: 25 0 1 1 0 0
 wait: 14 0 0 2 0 0
 step: 6 0 0 0 0 64
 run: 6 0 2 8 2 52
@@ -152,7 +166,8 @@ IDCR after 10
 
 #[test]
 fn numbers_words_and_calls() {
-    let numbers = KINDS.iter().chain(&REFUSALS_AND_EFFECTS).chain(&SIZES_SOURCES_DIRECTIONS);
+    let numbers = KINDS.iter().chain(&CHANGES).chain(&REFUSALS_AND_EFFECTS);
+    let numbers = numbers.chain(&SIZES_SOURCES_DIRECTIONS);
     let numbers = numbers.chain(&REGISTERS).chain(&WORDS);
     let mut expected: String = numbers.map(|(name, number)| format!("{name} {number}\n")).collect();
     expected += CALLS;
@@ -162,7 +177,8 @@ fn numbers_words_and_calls() {
 
 #[test]
 fn the_march_incident_in_c() {
-    let expected = "5 steps done\nthe write erased the alarm of source 2\nthe write erased the alarm of source 4\n";
+    let expected = "4 steps done\nno bound for the fan: the write at step 4 erases its alarm\n\
+                    the write erased the alarm of source 2\nthe write erased the alarm of source 4\n";
     let source = root().join("examples/march.c");
     assert_eq!(printed_by(&source, "march"), expected);
 }

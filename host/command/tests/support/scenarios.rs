@@ -40,9 +40,8 @@ pub fn start(random: &mut Random) -> Vec<String> {
     lines
 }
 
-/// A case of demand 3: concurrent mode, no DMA, and steps that are triggers and pairs of return and arbitration, with
-/// calls.
-pub fn plain(random: &mut Random) -> (Vec<String>, Vec<String>) {
+/// What stands before the steps where both claims' premises hold: concurrent mode, no DMA, the top level disabled.
+fn calm(random: &mut Random) -> Vec<String> {
     let mut lines: Vec<_> =
         ["image zero", "set CICR 97h", "set EIMR FFh", "set EIVR 46h", "set R240.p9 0Ah"]
             .map(String::from)
@@ -50,6 +49,12 @@ pub fn plain(random: &mut Random) -> (Vec<String>, Vec<String>) {
     lines.push(format!("set EIPLR {:02X}h", random.byte()));
     lines.push(format!("set EIPR {:02X}h", random.byte() & random.byte()));
     lines.push("channel page=9 idcr=240 ivr=241 dcpr=242 dapr=243 data=244 in".to_string());
+    lines
+}
+
+/// A case of demand 3: steps that are triggers and pairs of return and arbitration, with calls.
+pub fn plain(random: &mut Random) -> (Vec<String>, Vec<String>) {
+    let lines = calm(random);
     let mut steps = vec![];
     for _ in 0..10 {
         match random.below(4) {
@@ -59,6 +64,38 @@ pub fn plain(random: &mut Random) -> (Vec<String>, Vec<String>) {
         }
     }
     (lines, steps)
+}
+
+/// A case of the handlers' claim: reads and writes too, few of which change what it rests on.
+pub fn handler(random: &mut Random) -> (Vec<String>, Vec<String>) {
+    let mut lines = calm(random);
+    lines.push(format!("set EIPR {:02X}h", random.byte() | random.byte()));
+    let mut steps = vec![];
+    for _ in 0..8 {
+        match random.below(7) {
+            0 => steps.push(format!("edge {} falling", random.below(8))),
+            1 => steps.push(format!("read {}", random.pick(&["EIPR", "CICR", "R16"]))),
+            2 => steps.push(format!("write EIPR {:02X}h", random.byte() | random.byte())),
+            3 => steps.push(random.pick(&["write CICR 97h", "write NICR 7Fh"]).to_string()),
+            4 => steps.push(changing(random)),
+            _ => steps.extend(["return", "arbitrate"].map(String::from)),
+        }
+    }
+    for _ in 0..4 {
+        let call = random.pick(&["wait", "bound", "handler bound"]);
+        steps.insert(random.below(steps.len()), format!("{call} {}", random.below(8)));
+    }
+    (lines, steps)
+}
+
+/// A step that the handlers' claim does not speak of.
+fn changing(random: &mut Random) -> String {
+    let changes =
+        ["EIPR 00h", "CICR 9Fh", "CICR 9Fh", "CICR 96h", "CICR B7h", "EIMR 7Fh", "EIPLR 00h"];
+    match random.below(8) {
+        7 => "reset".to_string(),
+        change => format!("write {}", changes[change]),
+    }
 }
 
 /// A step, mostly one that is not refused.
@@ -112,10 +149,11 @@ fn refused(random: &mut Random) -> String {
 /// A call, for a source that is there or not.
 pub fn call(random: &mut Random) -> String {
     let source = random.pick(&["INTA0", "INTB0", "INTC0", "INTD0", "CH0", "7", "9"]);
-    match random.below(4) {
+    match random.below(5) {
         0 => format!("wait {source}"),
         1 => format!("bound {source}"),
-        2 => "run".to_string(),
+        2 => format!("handler bound {source}"),
+        3 => "run".to_string(),
         _ => format!("view {}", random.pick(&["0", "9", "63", "64"])),
     }
 }
