@@ -1,6 +1,6 @@
 //! Any image, any channel list, any word: an answer, no panic, and a refusal that changes nothing.
 
-use st9::{Bound, Channel, Done, Refusal, RunError, Source, Step, Wait, WaitError};
+use st9::{Bound, Channel, Done, Premise, Refusal, RunError, Source, Step, Wait, WaitError};
 
 /// Random numbers (xorshift64), the same at every run.
 struct Random(u64);
@@ -62,21 +62,29 @@ impl Random {
         (0..self.below(12)).map(|_| self.word()).collect()
     }
 
-    /// Edges and arbitrations, a return after each arbitration: steps that demand 3 speaks of.
+    /// Edges and arbitrations, a return after each arbitration, as demand 3 speaks of them; in every second list reads
+    /// and writes too, of the register file or of EIPR.
     fn waiting(&mut self) -> Vec<u64> {
         let mut words = Vec::new();
+        let is_handler = self.below(2) == 0;
         for _ in 0..self.below(12) {
             let pin = self.below(8) as u32;
             words.push(Step::Pin { pin, edge: st9::Edge::Falling }.word());
-            words.extend([Step::Arbitrate.word(), Step::Return.word()]);
+            words.push(Step::Arbitrate.word());
+            if is_handler {
+                let register = [10, u32::from(st9::register::EIPR)][self.below(2) as usize];
+                words.push(Step::Read { register }.word());
+                words.push(Step::Write { register, value: self.next() as u8 }.word());
+            }
+            words.push(Step::Return.word());
         }
         words
     }
 }
 
-/// Interrupts enabled, concurrent mode, CPL 7, top level disabled and not in service; every pin falling.
+/// Interrupts enabled, concurrent mode, CPL 7, top level disabled and not in service; page 0, every pin falling.
 fn meet_premises(image: &mut [u8]) {
-    for (index, byte) in [(230, 0x97), (242, 0x00), (247, 0x00), (st9::MARK, 0)] {
+    for (index, byte) in [(230, 0x97), (234, 0x00), (242, 0x00), (247, 0x00), (st9::MARK, 0)] {
         if let Some(stored) = image.get_mut(index) {
             *stored = byte;
         }
@@ -119,10 +127,10 @@ fn a_run_is_its_steps_one_by_one() {
 }
 
 #[test]
-fn a_wait_keeps_to_its_bound() {
+fn a_wait_keeps_to_its_bounds() {
     let mut random = Random(0x0092_0250);
-    let mut within = 0;
-    for _ in 0..20_000 {
+    let (mut within, mut by_handlers, mut changed) = (0, 0, 0);
+    for _ in 0..40_000 {
         let mut image = random.image();
         let (mut channels, mut words) = (random.channels(), random.words());
         let source = Source(random.below(22) as u32);
@@ -132,24 +140,39 @@ fn a_wait_keeps_to_its_bound() {
             words = random.waiting();
         }
         let before = image.clone();
-        let bound = st9::bound(&image, &channels, source, &words);
+        let demand = st9::bound(&image, &channels, source, &words);
+        let handlers = st9::handler_bound(&image, &channels, source, &words);
         assert_eq!(image, before);
         let waited = st9::wait(&mut image, &channels, source, &words);
-        match (bound, waited) {
-            (Err(refusal), Err(WaitError::Call(same))) => assert_eq!(refusal, same),
-            (Err(_), _) | (_, Err(WaitError::Call(_))) => panic!("{bound:?}, {waited:?}"),
-            (Ok(Bound::Within { outranking, triggers, bound }), Ok(waited)) => {
-                within += 1;
-                assert_eq!(bound, outranking + triggers + 1);
-                match waited {
-                    Wait::Acknowledged { arbitrations } => assert!(arbitrations <= bound),
-                    Wait::Ended { arbitrations } => assert!(arbitrations < bound),
-                }
-            }
-            _ => {}
-        }
+        within += u64::from(is_kept(demand, waited));
+        by_handlers += u64::from(is_kept(handlers, waited) && !is_kept(demand, waited));
+        changed += u64::from(
+            matches!(handlers, Ok(Bound::Fails(Premise::Changed { index, .. })) if index < words.len()),
+        );
     }
-    assert!(within > 500, "{within}");
+    let met = [within, by_handlers, changed];
+    assert!(met.iter().all(|count| *count > 100), "{met:?}");
+}
+
+/// Whether a bound was answered; the wait report is within it, and refused where it is.
+fn is_kept(bound: Result<Bound, Refusal>, waited: Result<Wait, WaitError>) -> bool {
+    match (bound, waited) {
+        (Err(refusal), Err(WaitError::Call(same))) => assert_eq!(refusal, same),
+        (Err(_), _) | (_, Err(WaitError::Call(_))) => panic!("{bound:?}, {waited:?}"),
+        (Ok(Bound::Within { outranking, triggers, bound }), _) => {
+            assert_eq!(bound, outranking + triggers + 1);
+            match waited {
+                Ok(Wait::Acknowledged { arbitrations }) => assert!(arbitrations <= bound),
+                Ok(Wait::Ended { arbitrations }) | Err(WaitError::Step { arbitrations, .. }) => {
+                    assert!(arbitrations < bound)
+                }
+                Err(WaitError::Call(_)) => unreachable!(),
+            }
+            return true;
+        }
+        (Ok(Bound::Fails(_)), _) => {}
+    }
+    false
 }
 
 #[test]
@@ -180,6 +203,7 @@ fn nothing_lent() {
     let refused = Err(WaitError::Call(Refusal::Number));
     assert_eq!(st9::wait(&mut image, &[], beyond, &[]), refused);
     assert_eq!(st9::bound(&image, &[], beyond, &[]), Err(Refusal::Number));
+    assert_eq!(st9::handler_bound(&image, &[], beyond, &[]), Err(Refusal::Number));
 }
 
 #[test]
