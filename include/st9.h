@@ -227,9 +227,9 @@ st9_answer st9_wait(uint8_t *image, size_t image_length, const uint8_t *channels
 st9_answer st9_bound(const uint8_t *image, size_t image_length, const uint8_t *channels, size_t channels_length, uint32_t source, const uint64_t *words, size_t word_count);
 
 /*
- * The same over a handler's steps, its reads and writes included: each write leaves IAM, CPL, TLI, TLNM, every source's mask, level and DMA enable,
- * and the source's pending bit. Only the steps up to the acknowledgement count, and E has also the pending bits of outranking unmasked sources
- * that writes raise. Never above st9_bound's where both answer one. The image is only read.
+ * The same over a handler's steps, its reads and writes included, where each write leaves IAM, CPL, TLI, TLNM, every source's mask, level and DMA
+ * enable, and the source's pending bit. Only the steps up to the acknowledgement count, and E has also the pending bits of outranking unmasked
+ * sources that writes raise. Never above st9_bound's where both answer one. The image is only read.
  */
 st9_answer st9_handler_bound(const uint8_t *image, size_t image_length, const uint8_t *channels, size_t channels_length, uint32_t source, const uint64_t *words, size_t word_count);
 

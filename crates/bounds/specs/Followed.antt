@@ -16,13 +16,14 @@ use Rattle.rules.specs.declared.Effect.the-variants as effect
 use Rattle.rules.specs.declared.Answer.{Answer}
 use Rattle.rules.specs.declared.Answer.the-variants as answer
 use Rattle.rules.specs.declared.Bounded.{Bounded}
+use Rattle.rules.specs.declared.Bounded.the-variants as bounded
 use Rattle.bounds.specs.declared.Premises.{Premises}
 use Rattle.bounds.specs.declared.Premises.the-variants as premises
 use Rattle.rules.specs.Image.{Image}
 use Rattle.rules.specs.Channels.{mostRecords}
 use Rattle.rules.specs.Sources.{sources}
 use Rattle.rules.specs.Runs.{Event, isArbitration}
-use Rattle.rules.specs.Waiting.{rival, triggersOf}
+use Rattle.rules.specs.Waiting.{rival, H, triggersOf}
 use Rattle.rules.specs.Bounds.{firstFrom, otherStep, disabledStep, stepsElse}
 
 -- ---- the premises on the start
@@ -90,6 +91,10 @@ abbrev pub firstDisabled : ℕ → ℕ → ℕ → Step → Bool → ℕ
 firstDisabled first end i x enabled = cond (ltb first end) first (cond (isArbitration x && not enabled) i first)
 
 -- ---- the loop
+
+-- H, E and the bound
+abbrev pub withinOf : Image → List Channel → ℕ → ℕ → Bounded
+withinOf m cs s e = bounded.Within (H m cs s) e (H m cs s + e + 1)
 
 -- what is answered of the events es from step n on, with e triggers before them, and `first` below `end` where an arbitration before had interrupts disabled
 unfoldable pub followedFrom : (ℕ → Bool) → ℕ → ℕ → ℕ → ℕ → ℕ → List Event → Bounded

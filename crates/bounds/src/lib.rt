@@ -32,7 +32,7 @@ use targets::selected_in;
 use targets::target_of;
 ghost use mathlib.Core.Path.{_≡_};
 ghost use mathlib.Core.Bool.{true, not, _&&_};
-ghost use Prim.Native.Nat.{_<_};
+ghost use Prim.Native.Nat.{_<_, _≤_};
 ghost use lib.ListN.{length};
 ghost use Rattle.rules.specs.Image.{imageLength, state};
 ghost use Rattle.rules.specs.Channels.{listOk, listOf};
@@ -42,7 +42,7 @@ ghost use Rattle.rules.specs.Steps.{stepsOf};
 ghost use Rattle.rules.specs.Runs.{history, oneIf};
 ghost use Rattle.rules.specs.Waiting.{isCall};
 ghost use Rattle.rules.specs.Bounds.{sourceElse, startElse, boundIn};
-ghost use Rattle.bounds.specs.Followed.{rivalTriggered, firstDisabled, Decides};
+ghost use Rattle.bounds.specs.Followed.{rivalTriggered, firstDisabled, withinOf, Decides};
 
 // Whether a step was done that is no trigger, arbitration or return; a refused one is none.
 fn other_step(step: Step, a: Answer) -> bool
@@ -87,6 +87,19 @@ pub fn rival_trigger(image: &[u8], all: Channels, ours: usize, step: Step, a: An
     0
 }
 
+// H, E and the bound. A step counts twelve at most in E, and a lent slice of words has fewer than 2^60, so that the sum fits.
+pub fn within(image: &[u8], all: Channels, ours: usize, triggers: usize) -> Bounded
+    requires { ⌜ (length (now image) ≡ imageLength) × (listOk (listOf all) ≡ true) × (ours < sources (listOf all)) × (triggers ≤ 0xc000000000000000) ⌝ }
+    ensures { λ b. ⌜ b ≡ withinOf (now (image .entry)) (listOf all) ours triggers ⌝ }
+{
+    let outranking = pending_rivals(image, all, ours);
+    Bounded::Within {
+        outranking,
+        triggers,
+        bound: outranking + triggers + 1,
+    }
+}
+
 // The premises on the steps, and the bound where they hold.
 fn followed(image: &[u8], all: Channels, ours: usize, words: &[u64]) -> Bounded
     requires { ⌜ (length (now image) ≡ imageLength) × (listOk (listOf all) ≡ true) × (ours < sources (listOf all)) ⌝ }
@@ -111,12 +124,7 @@ fn followed(image: &[u8], all: Channels, ours: usize, words: &[u64]) -> Bounded
     if disabled < end {
         return Bounded::InterruptsDisabled { index: disabled };
     }
-    let outranking = pending_rivals(image, all, ours);
-    Bounded::Within {
-        outranking,
-        triggers,
-        bound: outranking + triggers + 1,
-    }
+    within(image, all, ours, triggers)
 }
 
 // Whether some premises hold, or the first of them that fails.

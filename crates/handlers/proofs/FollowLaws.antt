@@ -1,11 +1,11 @@
 -- What a step that is followed breaks and counts, and what the next step does to those that the bound follows. Assumes nothing.
-use mathlib.Core.Path.{_≡_, refl, sym, ap, _∙_, subst}
+use mathlib.Core.Path.{_≡_, refl, sym, ap, _∙_}
 use mathlib.Core.Logic.{_≢_}
-use mathlib.Core.Bool.{Bool, true, false, false≢true, cond, not, _&&_, and-false}
+use mathlib.Core.Bool.{Bool, true, false, false≢true, cond, not, _&&_}
 use mathlib.Core.List.{List, []}
 use mathlib.Core.Option.{Option, none, some}
 use Prim.Native.Nat.{ℕ, _+_, _≤_, _<_}
-use native.Mathlib.Nat.{add-zero, zero-add, add-assoc}
+use native.Mathlib.Nat.{add-zero, zero-add}
 use native.Mathlib.Omega.{arith}
 use lib.Dec.{eqb, ltb}
 use lib.ListN.{length}
@@ -14,8 +14,6 @@ use Rattle.rules.specs.declared.Channel.{Channel}
 use Rattle.rules.specs.declared.Step.{Step}
 use Rattle.rules.specs.declared.Step.the-variants as step
 use Rattle.rules.specs.declared.Answer.{Answer}
-use Rattle.rules.specs.declared.Basis.{Basis}
-use Rattle.rules.specs.declared.Basis.the-variants as basis
 use Rattle.rules.specs.declared.Bounded.{Bounded}
 use Rattle.rules.specs.declared.Bounded.the-variants as bounded
 use Rattle.rules.specs.Image.{Image, imageLength, State, state, has, CICR, IEN}
@@ -25,12 +23,12 @@ use Rattle.rules.specs.Outcomes.{Outcome, outcome, isRefused}
 use Rattle.rules.specs.Registers.{writeOf}
 use Rattle.rules.specs.Steps.{actOf}
 use Rattle.rules.specs.Runs.{Event, history, until, oneIf, counted, isArbitration, eventAcknowledges}
-use Rattle.rules.specs.Waiting.{rival, H, selectedBy, triggers, triggersOf}
-use Rattle.rules.specs.Handlers.{isWrite, raised, raisedBy, raisedOf, upTo}
-use Rattle.rules.specs.HandlerBounds.{changes, bases, firstChanged, brokenStep, brokenBy, orLater, firstBroken, brokenElse, handlerBoundIn}
+use Rattle.rules.specs.Waiting.{rival, H, selectedBy, triggers}
+use Rattle.rules.specs.Handlers.{isWrite, raised, raisedOf, upTo}
+use Rattle.rules.specs.HandlerBounds.{changes, bases, firstChanged, brokenStep, brokenBy, firstBroken, brokenElse, handlerBoundIn}
 use Rattle.rules.proofs.Bools.{impossible, and-l, and-r}
 use Rattle.rules.proofs.HandlerWrites.{file-leaves}
-use Rattle.rules.proofs.ChangeLaws.{leaves-unchanged}
+use Rattle.rules.proofs.ChangeLaws.{leaves-unchanged, none-first}
 use Rattle.rules.proofs.Counting.{one-le}
 use Rattle.dispatch.proofs.NextSteps.{Next, eventOf, history-next}
 use Rattle.bounds.specs.Followed.{rivalTriggered}
@@ -38,7 +36,7 @@ use Rattle.bounds.proofs.FollowedSteps.{triggers-told}
 use Rattle.handlers.specs.declared.Broken.{Broken}
 use Rattle.handlers.specs.declared.Broken.the-variants as breaks
 use Rattle.handlers.specs.declared.Seen.{Seen}
-use Rattle.handlers.specs.Handled.{broken, mayDo, fileWrite, brokenCall, eventIn, more, Follows, withinOf, followedFrom}
+use Rattle.handlers.specs.Handled.{broken, mayStand, fileWrite, brokenCall, eventIn, more, Follows, followedFrom}
 use Rattle.handlers.proofs.RaisedLaws.{raised-few, raised-none}
 
 -- ---- a write, and a step that is none
@@ -64,7 +62,7 @@ module _ (cs : List Channel) (s : ℕ) (m m' : Image) (i : ℕ) where
   write-breaks step.Reset w = absurd (false≢true w)
   write-breaks step.Unknown w = absurd (false≢true w)
 
-  call-breaks : (x : Step) → isWrite x ≡ false → broken (brokenStep cs s m x m' i) ≡ cond (mayDo x) breaks.Nothing (breaks.By (bounded.OtherStep i))
+  call-breaks : (x : Step) → isWrite x ≡ false → broken (brokenStep cs s m x m' i) ≡ cond (mayStand x) breaks.Nothing (breaks.By (bounded.OtherStep i))
   unfolding brokenStep
   call-breaks (step.Read r) w = refl
   call-breaks (step.Write r v) w = absurd (false≢true (sym w))
@@ -75,12 +73,6 @@ module _ (cs : List Channel) (s : ℕ) (m m' : Image) (i : ℕ) where
   call-breaks step.Unknown w = refl
 
 -- ---- a step that is followed
-
--- nothing that the bound rests on changed
-unchanged-none : (i : ℕ) (p : Basis → Bool) → ((b : Basis) → p b ≡ false) → firstChanged p bases i ≡ none
-unfolding firstChanged
-unchanged-none i p f =
-    rw (f basis.Pending, f basis.Mode, f basis.CurrentLevel, f basis.TopLevel, f basis.Mask, f basis.DmaEnable, f basis.Level)
 
 module _ (start before after : Image) (cs : List Channel) (s : ℕ) (x : Step) (i : ℕ) (a : Answer) (did : outcome a (state after) ≡ actOf (state before) cs x) where
   abbrev seen : Broken → ℕ → Seen
@@ -122,8 +114,8 @@ module _ (start before after : Image) (cs : List Channel) (s : ℕ) (x : Step) (
           let low = ltb-true r 240 (and-l (ltb r 240) (not (eqb r CICR)) w) in
           let other : r ≢ CICR = λ q. false≢true (sym (ap not (eq-eqb r CICR q)) ∙ and-r (ltb r 240) (not (eqb r CICR)) w) in
           let same : after ≡ writeOf before cs r v .image = ap (λ (o : Outcome). o .state .image) e in
-          let none-changed = unchanged-none i (changes cs s before (writeOf before cs r v .image))
-          (leaves-unchanged cs s before (writeOf before cs r v .image) (file-leaves before cs s long ok there r v low other)) in
+          let none-changed = none-first (changes cs s before (writeOf before cs r v .image)) i
+          (leaves-unchanged cs s before (writeOf before cs r v .image) (file-leaves before cs s long ok there r v low other)) bases in
           record {
             did = e;
             breaks = rw (same, none-changed) (either (isRefused a));
@@ -146,7 +138,7 @@ module _ (start before after : Image) (cs : List Channel) (s : ℕ) (x : Step) (
         counts = rw w (q ∙ ap oneIf (sym (triggers-told before cs ok (rival start cs s) x a (state after) did)) ∙ sym (add-zero _));
       }
     where
-      go : (d r : Bool) → cond d (breaks.By (bounded.InterruptsDisabled i)) (cond r breaks.Nothing (cond (mayDo x) breaks.Nothing (breaks.By (bounded.OtherStep i))))
+      go : (d r : Bool) → cond d (breaks.By (bounded.InterruptsDisabled i)) (cond r breaks.Nothing (cond (mayStand x) breaks.Nothing (breaks.By (bounded.OtherStep i))))
           ≡ broken (cond d (some (bounded.InterruptsDisabled i)) (cond r none (brokenStep cs s before x after i)))
       go true r = refl
       go false true = refl

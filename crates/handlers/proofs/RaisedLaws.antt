@@ -19,7 +19,7 @@ use Rattle.rules.specs.Registers.{placeOf, storedByte, writeAt, writeOf}
 use Rattle.rules.specs.Sources.{sources, pendingBit, pending}
 use Rattle.rules.specs.Runs.{oneIf}
 use Rattle.rules.specs.Waiting.{countBelow}
-use Rattle.rules.specs.Handlers.{raised}
+use Rattle.rules.specs.Handlers.{raises, raised}
 use Rattle.rules.proofs.Bools.{true-or}
 use Rattle.rules.proofs.Counting.{count-le, one-le}
 use Rattle.rules.proofs.ChannelLaws.{list-short}
@@ -58,7 +58,7 @@ stays false r = refl
 
 module _ (m : Image) (cs : List Channel) (ok : listOk cs ≡ true) (among : ℕ → Bool) where
   -- a source whose pending bit is of another byte than the written one
-  apart : (k i new : ℕ) → pendingBit cs k .byte ≢ i → (not (pending m cs k) && pending (set m i new) cs k && among k) ≡ false
+  apart : (k i new : ℕ) → pendingBit cs k .byte ≢ i → raises cs among m (set m i new) k ≡ false
   unfolding pending
   apart k i new d = rw (getD-set-other m i (pendingBit cs k .byte) new 0 d) (stays (has m (pendingBit cs k)) (among k))
 
@@ -67,7 +67,7 @@ module _ (m : Image) (cs : List Channel) (ok : listOk cs ≡ true) (among : ℕ 
   raised-few r v = at-place (placeOf m cs r)
     where
       count : Image → ℕ
-      count m' = countBelow (8 + length cs) (λ k. not (pending m cs k) && pending m' cs k && among k)
+      count m' = countBelow (8 + length cs) (raises cs among m m')
 
       at-place : (q : Place) → count (writeAt m q v .image) ≤ mostRecords
       at-place Unmodelled = omega (arith, below-only _ 0 (8 + length cs) (λ k g l. stays (pending m cs k) (among k)))
@@ -89,8 +89,8 @@ module _ (m : Image) (cs : List Channel) (ok : listOk cs ≡ true) (among : ℕ 
       let e : ℕ = cond (eqb r PPR) 0xfc 0xff in
       rw (place-low m cs r h) (go (storedByte r e (at m r) v))
     where
-      go : (new : ℕ) → countBelow (sources cs) (λ k. not (pending m cs k) && pending (set m r new) cs k && among k) ≡ 0
+      go : (new : ℕ) → countBelow (sources cs) (raises cs among m (set m r new)) ≡ 0
       go new =
-          let none : countBelow (sources cs) (λ k. not (pending m cs k) && pending (set m r new) cs k && among k) ≤ 0 =
+          let none : countBelow (sources cs) (raises cs among m (set m r new)) ≤ 0 =
           below-only _ 0 (sources cs) (λ k g l. apart k r new (pending-elim cs ok k l (λ (b : Bit). b .byte ≢ r) (λ t e. omega arith) (λ t o e. omega arith))) in
           omega arith

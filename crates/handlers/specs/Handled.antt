@@ -18,7 +18,7 @@ use Rattle.rules.specs.Sources.{unmasked, dmaEnabled, level}
 use Rattle.rules.specs.Outcomes.{outcome, isRefused}
 use Rattle.rules.specs.Steps.{actOf}
 use Rattle.rules.specs.Runs.{Event, oneIf}
-use Rattle.rules.specs.Waiting.{rival, H, triggers, triggersOf}
+use Rattle.rules.specs.Waiting.{rival, triggers, triggersOf}
 use Rattle.rules.specs.Handlers.{raisedBy, raisedOf}
 use Rattle.rules.specs.HandlerBounds.{differ, brokenBy, firstBroken, brokenElse}
 use Rattle.handlers.specs.declared.Broken.{Broken}
@@ -44,15 +44,15 @@ abbrev pub broken : Option Bounded → Broken
 broken none = breaks.Nothing
 broken (some b) = breaks.By b
 
--- a step of a kind that may be done
-abbrev pub mayDo : Step → Bool
-mayDo (step.Read r) = true
-mayDo (step.Write r v) = true
-mayDo (step.Trigger t) = true
-mayDo step.Arbitrate = true
-mayDo step.Return = true
-mayDo step.Reset = false
-mayDo step.Unknown = false
+-- a step of a kind that may stand in the list, a write where it leaves what the bound rests on
+abbrev pub mayStand : Step → Bool
+mayStand (step.Read r) = true
+mayStand (step.Write r v) = true
+mayStand (step.Trigger t) = true
+mayStand step.Arbitrate = true
+mayStand step.Return = true
+mayStand step.Reset = false
+mayStand step.Unknown = false
 
 -- a write of R0 to R239 but CICR
 abbrev pub fileWrite : Step → Bool
@@ -67,7 +67,7 @@ fileWrite step.Unknown = false
 -- what a step breaks that is no write, by its answer and whether it is an arbitration with interrupts disabled
 abbrev pub brokenCall : Step → Answer → Bool → ℕ → Broken
 brokenCall x a disabled i =
-    cond disabled (breaks.By (bounded.InterruptsDisabled i)) (cond (isRefused a) breaks.Nothing (cond (mayDo x) breaks.Nothing (breaks.By (bounded.OtherStep i))))
+    cond disabled (breaks.By (bounded.InterruptsDisabled i)) (cond (isRefused a) breaks.Nothing (cond (mayStand x) breaks.Nothing (breaks.By (bounded.OtherStep i))))
 
 -- ---- a step that is followed
 
@@ -86,10 +86,6 @@ pub record Follows (start before : Image) (cs : List Channel) (s : ℕ) (x : Ste
   pub counts : f .more ≡ more cs (rival start cs s) (eventIn before x (f .answer) after)
 
 -- ---- the loop
-
--- H, E and the bound
-abbrev pub withinOf : Image → List Channel → ℕ → ℕ → Bounded
-withinOf m cs s e = bounded.Within (H m cs s) e (H m cs s + e + 1)
 
 -- what is answered of the events es from step n on, where those before them triggered or raised e of the set
 unfoldable pub followedFrom : List Channel → ℕ → (ℕ → Bool) → ℕ → ℕ → ℕ → List Event → Bounded

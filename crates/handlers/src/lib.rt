@@ -7,6 +7,7 @@ use bounds::Premises;
 use bounds::copy_of;
 use bounds::rival_trigger;
 use bounds::start_premises;
+use bounds::within;
 use changes::first_changed;
 use changes::raised_rivals;
 use dispatch::acknowledged;
@@ -22,22 +23,19 @@ use rules::Channels;
 use rules::IEN;
 use rules::Step;
 use rules::Verdict;
-use sources::pending_rivals;
 ghost use mathlib.Core.Path.{_≡_};
-ghost use mathlib.Core.Bool.{true, not, _&&_};
-ghost use Prim.Native.Nat.{_<_, _≤_, _+_};
+ghost use mathlib.Core.Bool.{true};
+ghost use Prim.Native.Nat.{_<_};
 ghost use lib.ListN.{length};
 ghost use Rattle.rules.specs.Image.{imageLength, state};
 ghost use Rattle.rules.specs.Channels.{listOk, listOf};
-ghost use Rattle.rules.specs.Outcomes.{outcome};
 ghost use Rattle.rules.specs.Sources.{sources};
-ghost use Rattle.rules.specs.Steps.{stepsOf, actOf};
+ghost use Rattle.rules.specs.Steps.{stepsOf};
 ghost use Rattle.rules.specs.Runs.{history};
-ghost use Rattle.rules.specs.Waiting.{rival};
 ghost use Rattle.rules.specs.Handlers.{isWrite, upTo};
 ghost use Rattle.rules.specs.Bounds.{startElse};
 ghost use Rattle.rules.specs.HandlerBounds.{handlerBoundIn};
-ghost use Rattle.handlers.specs.Handled.{mayDo, fileWrite, brokenCall, Follows, withinOf};
+ghost use Rattle.handlers.specs.Handled.{mayStand, fileWrite, brokenCall, Follows};
 
 // What a step breaks of the premises on the steps: nothing, or what is answered of it.
 pub enum Broken {
@@ -52,9 +50,9 @@ pub struct Seen {
     pub more: usize,
 }
 
-// Whether a step that is no write may be done: a reset may not.
-fn may_do(step: Step) -> bool
-    ensures { λ b. ⌜ b ≡ mayDo step ⌝ }
+// Whether a step of this kind may stand in the list, a write where it leaves what the bound rests on: a reset may not.
+fn may_stand(step: Step) -> bool
+    ensures { λ b. ⌜ b ≡ mayStand step ⌝ }
 {
     match step {
         Step::Read(_) => true,
@@ -73,7 +71,7 @@ fn is_file_write(step: Step) -> bool
 {
     match step {
         Step::Read(_) => false,
-        Step::Write(register, _) => (register < 240) & (register != 230),
+        Step::Write(register, _) => (register < 240) & ((register as usize) != CICR),
         Step::Trigger(_) => false,
         Step::Arbitrate => false,
         Step::Return => false,
@@ -91,7 +89,7 @@ fn broken_call(step: Step, a: Answer, disabled: bool, index: usize) -> Broken
     }
     match verdict_of(a) {
         Verdict::Accepted => {
-            if may_do(step) {
+            if may_stand(step) {
                 return Broken::Nothing;
             }
             Broken::By(Bounded::OtherStep { index })
@@ -163,19 +161,6 @@ fn follow(
         answer,
         broken,
         more,
-    }
-}
-
-// H, E and the bound.
-fn within(image: &[u8], all: Channels, ours: usize, triggers: usize) -> Bounded
-    requires { ⌜ (length (now image) ≡ imageLength) × (listOk (listOf all) ≡ true) × (ours < sources (listOf all)) × (triggers ≤ 0xc000000000000000) ⌝ }
-    ensures { λ b. ⌜ b ≡ withinOf (now (image .entry)) (listOf all) ours triggers ⌝ }
-{
-    let outranking = pending_rivals(image, all, ours);
-    Bounded::Within {
-        outranking,
-        triggers,
-        bound: outranking + triggers + 1,
     }
 }
 

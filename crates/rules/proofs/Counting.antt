@@ -14,7 +14,7 @@ use Rattle.rules.specs.Image.{Image}
 use Rattle.rules.specs.Sources.{sources, pending}
 use Rattle.rules.specs.Runs.{oneIf}
 use Rattle.rules.specs.Waiting.{countBelow, pendingOf}
-use Rattle.rules.specs.Handlers.{raised}
+use Rattle.rules.specs.Handlers.{raises, raised}
 use Rattle.rules.proofs.Bools.{both}
 
 -- `oneIf` is at most 1
@@ -105,7 +105,7 @@ module _ (cs : List Channel) (m m' : Image) (r : ℕ → Bool) where
   pub pendingOf-raised : pendingOf m' cs r ≤ pendingOf m cs r + raised cs r m m'
   unfolding pendingOf raised
   pendingOf-raised =
-      count-sum (counts m cs r) (counts m' cs r) (λ k. not (pending m cs k) && pending m' cs k && r k) (sources cs)
+      count-sum (counts m cs r) (counts m' cs r) (raises cs r m m') (sources cs)
       (λ k. newly (pending m cs k) (pending m' cs k) (r k))
 
   -- one more may be pending

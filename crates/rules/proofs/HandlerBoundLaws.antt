@@ -1,5 +1,5 @@
 -- The bound of Handlers as a function: a bound is answered exactly where the premises hold, else the first premise that fails. Assumes nothing.
-use mathlib.Core.Path.{_≡_, refl, _∙_, subst}
+use mathlib.Core.Path.{_≡_, refl, sym, _∙_, subst}
 use mathlib.Core.Logic.{_⊎_, inl, inr}
 use mathlib.Core.List.{List, [], _∷_}
 use mathlib.Core.Bool.{Bool, true, false, cond}
@@ -21,17 +21,18 @@ use Rattle.rules.specs.Waiting.{rival, H, Start}
 use Rattle.rules.specs.Handlers.{isWrite, EAndRaised, MayDo, Handles, upTo}
 use Rattle.rules.specs.Steps.{stepsOf}
 use Rattle.rules.specs.Bounds.{startElse, disabledStep, unlessRefused, boundOf, BoundSays}
-use Rattle.rules.specs.Promises.{HandlerBoundWaits}
+use Rattle.rules.specs.Promises.{HandlerBoundNotAbove, HandlerBoundWaits}
 use Rattle.rules.specs.HandlerBounds.{changes, bases, firstChanged, brokenStep, brokenBy, orLater, firstBroken, brokenElse, handlerBoundIn, handlerBoundOf, HandlerBoundSays}
 use Rattle.rules.proofs.Bools.{not-both}
 use Rattle.rules.proofs.Refusals.{lent-accepted}
 use Rattle.rules.proofs.WaitLaws.{wait-accepted}
+use Rattle.rules.proofs.Told.{told-bound-injective}
 use Rattle.rules.proofs.FirstFailing.{Above, above-start, FailingBy, start-failing}
 use Rattle.rules.proofs.Handlers.{handle-until, fewer-until}
 use Rattle.rules.proofs.Demand3.{calls-handle, calls-raise-none}
 use Rattle.rules.proofs.RunsAndWaits.{wait-within}
-use Rattle.rules.proofs.ChangeLaws.{leaves-unchanged, unchanged-leaves, FirstIs, first-is, every-basis}
-use Rattle.rules.proofs.BoundLaws.{implied, implies, exactly-where, start-kept, bound-says, keeps-told}
+use Rattle.rules.proofs.ChangeLaws.{leaves-unchanged, unchanged-leaves, Leads, FirstIs, first-is, every-basis}
+use Rattle.rules.proofs.BoundLaws.{where-elim, implied, implies, exactly-where, start-kept, bound-says, keeps-told}
 
 -- ---- what a step, an event and a list break
 
@@ -41,7 +42,7 @@ module _ (cs : List Channel) (s : ℕ) where
   StepBreaks m x m' i none = MayDo cs s m x m'
   StepBreaks m x m' i (some b) =
       (MayDo cs s m x m' → ⊥)
-      × (((b ≡ bounded.OtherStep i) × (isWrite x ≡ false)) ⊎ ((a : Basis) × (b ≡ bounded.Changed a i) × (isWrite x ≡ true) × (changes cs s m m' a ≡ true)))
+      × (((b ≡ bounded.OtherStep i) × (isWrite x ≡ false)) ⊎ ((a : Basis) × (b ≡ bounded.Changed a i) × (isWrite x ≡ true) × Leads (changes cs s m m') i bases a))
 
   step-breaks : (m : Image) (x : Step) (m' : Image) (i : ℕ) → StepBreaks m x m' i (brokenStep cs s m x m' i)
   unfolding brokenStep
@@ -53,7 +54,7 @@ module _ (cs : List Channel) (s : ℕ) where
 
       go : (o : Option Bounded) → FirstIs p i bases o → StepBreaks m (step.Write r v) m' i o
       go none f = unchanged-leaves cs s m m' (every-basis p i f)
-      go (some b) f = (λ l. not-both (p (f .0)) (f .2) (leaves-unchanged cs s m m' l (f .0)), inr (f .0, f .1, refl, f .2))
+      go (some b) f = (λ l. not-both (p (f .0)) (f .2 .4) (leaves-unchanged cs s m m' l (f .0)), inr (f .0, f .1, refl, f .2))
   step-breaks m (step.Trigger t) m' i = tt
   step-breaks m step.Arbitrate m' i = tt
   step-breaks m step.Return m' i = tt
@@ -119,9 +120,6 @@ module _ (cs : List Channel) (s : ℕ) where
   handles-none [] i h = refl
   handles-none (e ∷ es) i h = rw (meets-none e i (h .0, h .1)) (handles-none es (i + 1) (h .2))
 
-  pub none-handles : (es : List Event) → firstBroken cs s 0 es ≡ none → Handles cs s es
-  none-handles es e = subst (ListBreaks es 0) e (list-breaks es 0)
-
 -- ---- the first premise that fails
 
 module _ (m : Image) (cs : List Channel) (s : ℕ) (es : List Event) where
@@ -129,12 +127,13 @@ module _ (m : Image) (cs : List Channel) (s : ℕ) (es : List Event) where
   abbrev FailsAt : (Event → Type 0) → ℕ → Type 0
   FailsAt P i = (e : Event) × (rest : List Event) × (drop i es ≡ (e ∷ rest)) × Handles cs s (take i es) × P e
 
-  -- a step that may not be done and is no write; a write that changed what it may not; an arbitration with interrupts disabled
+  -- a step that may not be done and is no write; a write with the first of what it changed; an arbitration with interrupts disabled
   abbrev pub HandlerFailing : Bounded → Type 0
   HandlerFailing =
       FailingBy m cs s
       (FailsAt (λ e. (eventRefused e ≡ false) × (isWrite (e .step) ≡ false) × (MayDo cs s (e .before .image) (e .step) (e .outcome .state .image) → ⊥)))
-      (λ a. FailsAt (λ e. (eventRefused e ≡ false) × (isWrite (e .step) ≡ true) × (changes cs s (e .before .image) (e .outcome .state .image) a ≡ true)))
+      (λ a i.
+      FailsAt (λ e. (eventRefused e ≡ false) × (isWrite (e .step) ≡ true) × Leads (changes cs s (e .before .image) (e .outcome .state .image)) i bases a) i)
       (FailsAt (λ e. disabledStep e ≡ true)) (Handles cs s es)
 
   steps-failing : Above m cs s → (o : Option Bounded) (h e : ℕ) → ListBreaks cs s es 0 o → HandlerFailing (brokenElse o h e)
@@ -193,7 +192,19 @@ module _ (m : Image) (cs : List Channel) (s : ℕ) (xs : List Step) where
         rw (given .2) (handler-bound-given (given .0) (handle-until cs s (eventAcknowledges s) es (calls-handle cs s es (given .1)))),
       )
 
--- ---- a wait report on the same data
+-- ---- demand 3's bound and a wait report on the same data
+
+pub handler-bound-not-above : HandlerBoundNotAbove
+handler-bound-not-above m cs s words b b' bounds handlers =
+    let xs = stepsOf words in
+    where-elim _ _ b
+    (λ h e k q.
+    let sharper = handler-bound-sharper m cs s xs h e k (sym (told-bound-injective b (boundOf (state m) cs s xs) bounds) ∙ q) in
+    let same : b' ≡ bounded.Within h (sharper .0) (h + sharper .0 + 1) = told-bound-injective b' (handlerBoundOf (state m) cs s xs) handlers ∙ sharper .2 in
+    let given : BoundSays m cs s xs (bounded.Within h e k) =
+    subst (BoundSays m cs s xs) (sym (told-bound-injective b (boundOf (state m) cs s xs) bounds) ∙ q) (bound-says m cs s xs) in
+    rw same (refl, sharper .1, omega (arith, sharper .1, given .4)))
+    (λ n. tt)
 
 pub handler-bound-waits : HandlerBoundWaits
 handler-bound-waits m cs s words b w after bounds waits =

@@ -1,5 +1,5 @@
--- The bound of Handlers can be met exactly, and what its premises forbid breaks it: a handler's list that needs H + E + 1 arbitrations, where one write of
--- EIPR raises two rivals; and a write of EIPR that erases ours. Assumes nothing.
+-- The bound of Handlers can be met exactly: a handler's list that needs H + E + 1 arbitrations, where one write of EIPR raises two rivals. And what is
+-- answered of steps that its premises forbid. Assumes nothing.
 use mathlib.Core.Path.{_≡_, refl}
 use mathlib.Core.Bool.{true, false}
 use mathlib.Core.List.{List, [], _∷_, map}
@@ -48,20 +48,18 @@ steps =
 abbrev pub events : List Event
 events = history (state start) channels steps
 
--- the bound that is answered is H + E + 1, with H = 1, one trigger, and three rivals raised by writes
-pub handler-bound-tight : handlerBoundOf (state start) channels ours steps ≡ bounded.Within 1 4 6
-unfolding start image digit bit putBit pageByte put idcrByte ivrByte dcprByte daprByte dataByte recordsOk member distinct allBytes listOk sources pendingBit pending unmasked dmaEnabled externalLevel level triggerVerdict selects selectsTop sourceEffect raiseSource topEffect raiseTop fire triggerOf requestOf eligible isAt wonBy candidate first winnerOfKind winnerAtLevel winnerOf vectorOf cleared acknowledged granted topLevel arbitration arbitrateOf returned returnOf lentVerdict actOf stepOf history outranks rival countBelow pendingOf anyEvent counted until rows existingBits pageZero recordPlace recordsPlace placeOf readOf storedByte lostBits writeAt writeOf raised raisedOf anyBelow changes firstChanged brokenStep brokenBy firstBroken calmElse sourceElse waitVerdict handlerBoundIn handlerBoundOf
-handler-bound-tight = refl
-
--- so the premises hold; ours is not acknowledged among the first five arbitrations, and is by the sixth. A bound that forgets what the writes raise, or
--- counts one for each write, is wrong
-pub handlers-tight : Start start channels ours × Handles channels ours (upTo ours events) × (H start channels ours + E start channels ours events ≡ 2)
+-- the bound that is answered is H + E + 1, with H = 1, one trigger, and three rivals raised by writes; so the premises hold. Ours is not acknowledged among
+-- the first five arbitrations, and is by the sixth: a bound that forgets what the writes raise, or counts one for each write that raises, is wrong
+pub handlers-tight :
+    (handlerBoundOf (state start) channels ours steps ≡ bounded.Within 1 4 6) × Start start channels ours × Handles channels ours (upTo ours events)
+    × (H start channels ours + E start channels ours events ≡ 2)
     × (arbitrationsIn (take 17 events) ≡ 5) × (acknowledgedIn ours (take 17 events) ≡ false)
     × (arbitrationsIn events ≡ 6) × (acknowledgedIn ours events ≡ true)
 unfolding start image digit bit putBit pageByte put idcrByte ivrByte dcprByte daprByte dataByte recordsOk member distinct allBytes listOk sources pendingBit pending unmasked dmaEnabled externalLevel level triggerVerdict selects selectsTop sourceEffect raiseSource topEffect raiseTop fire triggerOf requestOf eligible isAt wonBy candidate first winnerOfKind winnerAtLevel winnerOf vectorOf cleared acknowledged granted topLevel arbitration arbitrateOf returned returnOf lentVerdict actOf stepOf history outranks rival countBelow pendingOf anyEvent counted until rows existingBits pageZero recordPlace recordsPlace placeOf readOf storedByte lostBits writeAt writeOf raised raisedOf anyBelow changes firstChanged brokenStep brokenBy firstBroken calmElse sourceElse waitVerdict handlerBoundIn handlerBoundOf
 handlers-tight =
-    let p = handler-premises start channels ours steps 1 4 6 handler-bound-tight in
-    (p .0, p .1, refl, refl, refl, refl, refl)
+    let bound : handlerBoundOf (state start) channels ours steps ≡ bounded.Within 1 4 6 = refl in
+    let p = handler-premises start channels ours steps 1 4 6 bound in
+    (bound, p .0, p .1, refl, refl, refl, refl, refl)
 
 -- ---- what the premises forbid: each write is answered with what it changed
 
@@ -69,16 +67,20 @@ abbrev pub answerTo : List Step → Bounded
 answerTo xs = handlerBoundOf (state start) channels ours xs
 
 -- EIPR without our bit; CICR with IAM, with another CPL, with TLI; NICR with TLNM; EIMR and EIPLR changed; the record's DM set, its PRL changed; a reset;
--- an arbitration after a write that clears IEN
+-- an arbitration after a write that clears IEN. Then two writes that change several things: CICR with IAM, another CPL and TLI, the record's IDCR with IM, DM
+-- and PRL changed. And a reset behind the acknowledgement, which is not looked at
 pub changed-answers :
     map answerTo (
     (step.Return ∷ step.Write EIPR 0x01 ∷ []) ∷ (step.Write CICR 0x9f ∷ []) ∷ (step.Write CICR 0x96 ∷ []) ∷ (step.Write CICR 0xb7 ∷ [])
     ∷ (step.Write NICR 0x80 ∷ []) ∷ (step.Write EIMR 0x0f ∷ []) ∷ (step.Write EIPLR 0xf1 ∷ [])
     ∷ (step.Write PPR (4 * channel .page) ∷ step.Write (channel .idcr) 0x18 ∷ []) ∷ (step.Write PPR (4 * channel .page) ∷ step.Write (channel .idcr) 0x09 ∷ [])
-    ∷ (step.Reset ∷ []) ∷ (step.Write CICR 0x87 ∷ step.Arbitrate ∷ []) ∷ [])
+    ∷ (step.Reset ∷ []) ∷ (step.Write CICR 0x87 ∷ step.Arbitrate ∷ [])
+    ∷ (step.Write CICR 0xbe ∷ []) ∷ (step.Write PPR (4 * channel .page) ∷ step.Write (channel .idcr) 0x11 ∷ [])
+    ∷ (step.Return ∷ step.Arbitrate ∷ step.Return ∷ step.Arbitrate ∷ step.Reset ∷ []) ∷ [])
     ≡ (bounded.Changed basis.Pending 1 ∷ bounded.Changed basis.Mode 0 ∷ bounded.Changed basis.CurrentLevel 0 ∷ bounded.Changed basis.TopLevel 0
     ∷ bounded.Changed basis.TopLevel 0 ∷ bounded.Changed basis.Mask 0 ∷ bounded.Changed basis.Level 0
     ∷ bounded.Changed basis.DmaEnable 1 ∷ bounded.Changed basis.Level 1
-    ∷ bounded.OtherStep 0 ∷ bounded.InterruptsDisabled 1 ∷ [])
+    ∷ bounded.OtherStep 0 ∷ bounded.InterruptsDisabled 1
+    ∷ bounded.Changed basis.Mode 0 ∷ bounded.Changed basis.Mask 1 ∷ bounded.Within 1 0 2 ∷ [])
 unfolding start image digit bit putBit pageByte put idcrByte ivrByte dcprByte daprByte dataByte recordsOk member distinct allBytes listOk sources pendingBit pending unmasked dmaEnabled externalLevel level triggerVerdict selects selectsTop sourceEffect raiseSource topEffect raiseTop fire triggerOf requestOf eligible isAt wonBy candidate first winnerOfKind winnerAtLevel winnerOf vectorOf cleared acknowledged granted topLevel arbitration arbitrateOf returned returnOf lentVerdict actOf stepOf history outranks rival countBelow pendingOf anyEvent counted until rows existingBits pageZero recordPlace recordsPlace placeOf readOf storedByte lostBits writeAt writeOf raised raisedOf anyBelow changes firstChanged brokenStep brokenBy firstBroken calmElse sourceElse waitVerdict handlerBoundIn handlerBoundOf rowPlace resetByte resetRow resetRows resetOf
 changed-answers = refl

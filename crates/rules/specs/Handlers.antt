@@ -34,9 +34,13 @@ pub record Leaves (cs : List Channel) (s : ℕ) (before after : Image) : Type 0 
 
 -- ---- E with the writes
 
--- how many sources of a set a change raises: pending after it, and not before
+-- a change raises source k of a set: it is pending after it, and was not before
+abbrev pub raises : List Channel → (ℕ → Bool) → Image → Image → ℕ → Bool
+raises cs among before after k = not (pending before cs k) && pending after cs k && among k
+
+-- how many sources of a set it raises
 unfoldable pub raised : List Channel → (ℕ → Bool) → Image → Image → ℕ
-raised cs among before after = countBelow (sources cs) (λ k. not (pending before cs k) && pending after cs k && among k)
+raised cs among before after = countBelow (sources cs) (raises cs among before after)
 
 -- a write step
 abbrev pub isWrite : Step → Bool
@@ -63,8 +67,8 @@ EAndRaised m cs s es = E m cs s es + raisedOf cs (rival m cs s) es
 
 -- ---- the premises on the steps
 
--- a trigger, an arbitration, a return or a read, or a write that leaves what the bound rests on. No reset: it masks the external channels and clears
--- their pending bits, ours among them unserved (proofs/HandlerWrites `reset-breaks`)
+-- a trigger, an arbitration, a return or a read, or a write that leaves what the bound rests on. No reset: where ours is an external channel it clears
+-- its pending bit, unserved (proofs/HandlerWrites `reset-breaks`)
 abbrev pub MayDo : List Channel → ℕ → Image → Step → Image → Type 0
 MayDo cs s before (step.Read r) after = Unit {0}
 MayDo cs s before (step.Write r v) after = Leaves cs s before after
@@ -110,33 +114,35 @@ Handlers =
     (m : Image) (cs : List Channel) (xs : List Step)
     → HandlersOf m cs (history (state m) cs xs) (stateAfter (state m) (history (state m) cs xs) .image)
 
--- the same where arbitrations with interrupts disabled stand between, as while a handler runs: they serve nobody, so those with interrupts enabled count
+-- ---- without a premise on IEN: arbitrations with interrupts disabled, as while a handler runs, serve nobody, so those with interrupts enabled count
+
 abbrev pub enabledArbitration : Event → Bool
 enabledArbitration e = madeArbitration e && has (e .before .image) IEN
 
-abbrev pub EnabledHandlers : Type 0
-EnabledHandlers =
-    (m : Image) (cs : List Channel) (xs : List Step) (s : ℕ) → Start m cs s
-    → let es = history (state m) cs xs in
-    AllMay cs s (upTo s es) → (n : ℕ)
+abbrev pub EnabledHandlersOf : Image → List Channel → List Event → Type 0
+EnabledHandlersOf m cs es =
+    (s : ℕ) → Start m cs s → AllMay cs s (upTo s es) → (n : ℕ)
     → (H m cs s + EAndRaised m cs s (upTo s es) < counted enabledArbitration (take n es) → acknowledgedIn s (take n es) ≡ true) × Kept m cs s (take n es)
 
--- of a run of xs that leaves `after`: of the steps that it did, and the refused one if there is one
-abbrev pub HandlersOfRun : Image → List Channel → List Step → Image → Type 0
-HandlersOfRun m cs xs after = HandlersOf m cs (runEvents (state m) cs xs) after
+abbrev pub EnabledHandlers : Type 0
+EnabledHandlers = (m : Image) (cs : List Channel) (xs : List Step) → EnabledHandlersOf m cs (history (state m) cs xs)
 
--- of every run
+-- ---- runs and wait reports
+
+-- both of a run of xs that leaves `after`: of the steps that it did, and the refused one if there is one
+abbrev pub HandlersOfRun : Image → List Channel → List Step → Image → Type 0
+HandlersOfRun m cs xs after = let es = runEvents (state m) cs xs in HandlersOf m cs es after × EnabledHandlersOf m cs es
+
 abbrev pub RunHandlers : Type 0
 RunHandlers = (m : Image) (cs : List Channel) (xs : List Step) → HandlersOfRun m cs xs (runOf (state m) cs xs .state .image)
 
--- of a wait report for s over xs that answers w and leaves `after`: the same, for every source; and what it answers, where ours is the source waited for
+-- both of a wait report for s over xs that answers w and leaves `after`, for every source; and what it answers, where ours is the source waited for
 abbrev pub HandlersOfWait : Image → List Channel → ℕ → List Step → Waited → Image → Type 0
 HandlersOfWait m cs s xs w after =
-    HandlersOf m cs (waitEvents (state m) cs s xs) after
-    × (Start m cs s → Handles cs s (waitEvents (state m) cs s xs)
-    → WaitWithin (H m cs s + EAndRaised m cs s (waitEvents (state m) cs s xs)) w (pending after cs s))
+    let es = waitEvents (state m) cs s xs in
+    HandlersOf m cs es after × EnabledHandlersOf m cs es
+    × (Start m cs s → Handles cs s es → WaitWithin (H m cs s + EAndRaised m cs s es) w (pending after cs s))
 
--- of every wait report
 abbrev pub WaitHandlers : Type 0
 WaitHandlers =
     (m : Image) (cs : List Channel) (s : ℕ) (xs : List Step)

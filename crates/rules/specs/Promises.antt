@@ -2,7 +2,7 @@
 -- Assumes nothing.
 use mathlib.Core.Path.{_≡_}
 use mathlib.Core.List.{List, [], _∷_}
-use Prim.Native.Nat.{ℕ}
+use Prim.Native.Nat.{ℕ, _≤_}
 use Rattle.rules.specs.declared.Channel.{Channel}
 use Rattle.rules.specs.declared.Trigger.{Trigger}
 use Rattle.rules.specs.declared.Step.{Step}
@@ -20,8 +20,8 @@ use Rattle.rules.specs.Sources.{pending}
 use Rattle.rules.specs.Steps.{stepOf, decodeOf, stepsOf}
 use Rattle.rules.specs.Runs.{Event, stateAfter, runOf, waitOf}
 use Rattle.rules.specs.Waiting.{Demand3Of, Demand3OfRun, Demand3OfWait}
-use Rattle.rules.specs.Handlers.{HandlersOf, HandlersOfRun, HandlersOfWait}
-use Rattle.rules.specs.Bounds.{boundOf, BoundSays, WaitKeeps}
+use Rattle.rules.specs.Handlers.{HandlersOf, EnabledHandlersOf, HandlersOfRun, HandlersOfWait}
+use Rattle.rules.specs.Bounds.{boundOf, whereBounded, BoundSays, WaitKeeps}
 use Rattle.rules.specs.HandlerBounds.{handlerBoundOf, HandlerBoundSays}
 use Rattle.rules.specs.Answers.{told, toldVerdict, toldRun, toldWait, toldBound}
 
@@ -104,6 +104,12 @@ HandlerBoundWaits =
     (m : Image) (cs : List Channel) (source : ℕ) (words : List ℕ) (b : Bounded) (w : Waited) (after : Image)
     → HandlerBounds m cs source words b → Waits m cs source words w after → WaitKeeps b w (pending after cs source)
 
+-- where demand 3's bound is answered this one is too, of the same H, and it is no larger
+abbrev pub HandlerBoundNotAbove : Type 0
+HandlerBoundNotAbove =
+    (m : Image) (cs : List Channel) (source : ℕ) (words : List ℕ) (b b' : Bounded) → Bounds m cs source words b → HandlerBounds m cs source words b'
+    → whereBounded (λ h e k. whereBounded (λ h' e' k'. (h' ≡ h) × (e' ≤ e) × (k' ≤ k)) ⊥ b') (Unit {0}) b
+
 -- ---- calls one after another: each gets the image that the call before it left, and the same channel list
 
 -- a call that was made: its step, what it answered and what it left
@@ -133,7 +139,7 @@ CallsDemand3 =
 abbrev pub CallsHandlers : Type 0
 CallsHandlers =
     (m : Image) (cs : List Channel) (made : List Made) → AllDo m cs made
-    → HandlersOf m cs (eventsOf m made) (stateAfter (state m) (eventsOf m made) .image)
+    → HandlersOf m cs (eventsOf m made) (stateAfter (state m) (eventsOf m made) .image) × EnabledHandlersOf m cs (eventsOf m made)
 
 -- ---- the view
 

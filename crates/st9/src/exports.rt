@@ -21,7 +21,7 @@ pub extern "C" fn st9_step(image: &mut [u8], channels: &[u8], word: u64) -> Flat
     of_step(machine::perform(image, all, word))
 }
 
-// A run of steps given as words; and what demand 3 and Handlers say of it.
+// A run of steps given as words; and what demand 3 and the handlers' claim say of it.
 #[no_mangle]
 pub extern "C" fn st9_run(image: &mut [u8], channels: &[u8], words: &[u64]) -> Flat
     ensures { λ f. ⌜ Tells toldRun (λ r. RunClaims (now (image .entry)) (listIn (now (channels .entry))) (now (words .entry)) r (now (image .exit))) f ⌝ }
@@ -30,7 +30,7 @@ pub extern "C" fn st9_run(image: &mut [u8], channels: &[u8], words: &[u64]) -> F
     of_run(machine::run(image, all, words))
 }
 
-// The wait report for a source over steps given as words; and what demand 3 and Handlers say of it.
+// The wait report for a source over steps given as words; and what demand 3 and the handlers' claim say of it.
 #[no_mangle]
 pub extern "C" fn st9_wait(image: &mut [u8], channels: &[u8], source: u32, words: &[u64]) -> Flat
     ensures { λ f. ⌜ Tells toldWait (λ w. WaitClaims (now (image .entry)) (listIn (now (channels .entry))) source (now (words .entry)) w (now (image .exit))) f ⌝ }

@@ -68,7 +68,7 @@ pub fn perform(image: &mut [u8], cs: &[Channel], word: u64) -> Answer
     machine::perform(image, all, word)
 }
 
-// A run of steps given as words; and what demand 3 and Handlers say of it.
+// A run of steps given as words; and what demand 3 and the handlers' claim say of it.
 pub fn run(image: &mut [u8], cs: &[Channel], words: &[u64]) -> Ran
     ensures { λ r. ⌜ RunClaims (now (image .entry)) (now (cs .entry)) (now (words .entry)) r (now (image .exit)) ⌝ }
 {
@@ -76,7 +76,7 @@ pub fn run(image: &mut [u8], cs: &[Channel], words: &[u64]) -> Ran
     machine::run(image, all, words)
 }
 
-// The wait report for a source over steps given as words; and what demand 3 and Handlers say of it.
+// The wait report for a source over steps given as words; and what demand 3 and the handlers' claim say of it.
 pub fn wait(image: &mut [u8], cs: &[Channel], source: u32, words: &[u64]) -> Waited
     ensures { λ w. ⌜ WaitClaims (now (image .entry)) (now (cs .entry)) source (now (words .entry)) w (now (image .exit)) ⌝ }
 {
@@ -92,8 +92,8 @@ pub fn bound(image: &[u8], cs: &[Channel], source: u32, words: &[u64]) -> Bounde
     machine::bound(image, all, source, words)
 }
 
-// The same bound over lists with reads and writes, up to the acknowledgement: E counts the pending bits that writes raise too, and of a write that changed what
-// the bound rests on, what it changed is answered. A bound is answered exactly where the premises hold.
+// The handlers' claim's: the same over lists with reads and writes, up to the acknowledgement. E counts the pending bits that writes raise too; else the first
+// step that breaks a premise, and of a write what it changed. A bound is answered exactly where the premises hold.
 pub fn handler_bound(image: &[u8], cs: &[Channel], source: u32, words: &[u64]) -> Bounded
     ensures { λ b. ⌜ HandlerBoundClaims (now (image .entry)) (now (cs .entry)) source (now (words .entry)) b ⌝ }
 {

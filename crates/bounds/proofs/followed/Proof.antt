@@ -13,7 +13,6 @@ use Rattle.rules.specs.Steps.{stepsOf}
 use Rattle.rules.specs.Runs.{history, oneIf}
 use Rattle.rules.specs.Waiting.{rival, H}
 use Rattle.rules.proofs.Counting.{one-le}
-use Rattle.sources.proofs.SourceReads.{few-pending}
 use Rattle.bounds.specs.Followed.{rivalTriggered, followedFrom}
 use Rattle.dispatch.proofs.NextSteps.{next-word, no-word}
 use Rattle.bounds.proofs.FollowedSteps.{triggers-told, followed-start, followed-end, followed-other, followed-on}
@@ -35,12 +34,6 @@ counted-one c =
     let d = c .before .before .before .before .before in
     let s = d .before .before .before .before .before .before .before .before .before .before in
     omega (arith, c .rival-trigger .ensures, one-le (rivalTriggered (now (s .args .image)) (listOf (s .args .all)) (s .args .ours) (d .before .before .before .decode .result) (d .act .result)))
-
--- no more than there are sources
-few-rivals : (c : tie.After-pending-rivals Inv-loop μ-loop) → c .pending-rivals .result ≤ 20
-few-rivals c =
-    let s = c .before .before .before .before .before .before .before in
-    omega (arith, c .pending-rivals .ensures, few-pending _ (s .good .1 .0) (s .pre .1) (now (s .args .image)) (rival (now (s .args .image)) (listOf (s .args .all)) (s .args .ours)))
 
 copy-of-requires : tie.Need-copy-of-requires Inv-loop μ-loop
 copy-of-requires c κs = search needs
@@ -120,19 +113,16 @@ returns-2 c =
     let l = c .before .before in
     sym (followed-start _ _ _ _ _ ∙ l .loop .inv .3 ∙ followed-end _ _ _ _ _ _ _ _ (no-word _ _ (c .before .loop-test .left)) ∙ rw (lt-ltb _ _ (c .if2 .taken)))
 
-pending-rivals-requires : tie.Need-pending-rivals-requires Inv-loop μ-loop
-pending-rivals-requires c κs = search needs
-
-add-t26 : tie.Need-add-t26 Inv-loop μ-loop
-add-t26 c = omega (arith, few-rivals c)
-
-add-t27 : tie.Need-add-t27 Inv-loop μ-loop
-add-t27 c = omega (arith, few-rivals c)
+within-requires : tie.Need-within-requires Inv-loop μ-loop
+within-requires c κs =
+    let s = c .before .before .before .before .before .before in
+    (s .pre .0, s .pre .1, s .pre .2, omega arith)
 
 returns-3 : tie.Need-returns-3 Inv-loop μ-loop
 returns-3 c =
     let l = c .before .before .before in
-    sym (followed-start _ _ _ _ _ ∙ l .loop .inv .3 ∙ followed-end _ _ _ _ _ _ _ _ (no-word _ _ (c .before .before .loop-test .left)) ∙ rw (le-ltb _ _ (c .before .if2 .left), c .pending-rivals .ensures))
+    sym (followed-start _ _ _ _ _
+    ∙ l .loop .inv .3 ∙ followed-end _ _ _ _ _ _ _ _ (no-word _ _ (c .before .before .loop-test .left)) ∙ rw (le-ltb _ _ (c .before .if2 .left), c .within .ensures))
 
 pub followed-spec : {M : Type 1} → statement M
 followed-spec =
@@ -158,7 +148,5 @@ followed-spec =
     loop-less
     loop-again
     returns-2
-    pending-rivals-requires
-    add-t26
-    add-t27
+    within-requires
     returns-3)

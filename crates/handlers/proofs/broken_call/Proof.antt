@@ -13,8 +13,8 @@ verdict-of-requires c κs = search needs
 enum-told : tie.Need-enum-told
 enum-told c = search needs
 
-may-do-requires : tie.Need-may-do-requires
-may-do-requires c κs = search needs
+may-stand-requires : tie.Need-may-stand-requires
+may-stand-requires c κs = search needs
 
 returns-2 : tie.Need-returns-2
 returns-2 c = search needs
@@ -25,7 +25,7 @@ enum-told-2 c = search needs
 returns-3 : tie.Need-returns-3
 returns-3 c =
     let d = c .before .before in
-    rw (d .before .before .before .if1 .left, sym (d .before .before .verdict-of .ensures) ∙ d .enum-told .given .1, sym (c .before .may-do .ensures) ∙ c .if2 .left)
+    rw (d .before .before .before .if1 .left, sym (d .before .before .verdict-of .ensures) ∙ d .enum-told .given .1, sym (c .before .may-stand .ensures) ∙ c .if2 .left)
 
 returns-4 : tie.Need-returns-4
 returns-4 c = search needs
@@ -37,7 +37,7 @@ broken-call-spec =
     returns
     verdict-of-requires
     enum-told
-    may-do-requires
+    may-stand-requires
     returns-2
     enum-told-2
     returns-3

@@ -1,6 +1,5 @@
 -- What the step did is held against the copy that was made before it.
-use mathlib.Core.Path.{_≡_, sym, ap, _∙_}
-use lib.ListN.{length}
+use mathlib.Core.Path.{sym, ap, _∙_}
 use borrow.Author.Needs.{needs}
 use Rattle.rules.specs.Outcomes.{refuses}
 use Rattle.handlers.proofs.FollowLaws.{follows-write, follows-refused}

@@ -1,7 +1,7 @@
 -- The invariant: what is answered of all the words is what is answered of those that are left, after the steps done on the copy, with what these triggered and
 -- raised, twelve a step at most.
 use mathlib.Core.Path.{_≡_, sym, _∙_}
-use Prim.Native.Nat.{_+_, _*_, _-_, _≤_}
+use Prim.Native.Nat.{_*_, _-_, _≤_}
 use native.Mathlib.Omega.{arith}
 use lib.ListN.{length, drop}
 use borrow.Author.Needs.{needs}

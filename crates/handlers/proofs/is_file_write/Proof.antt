@@ -9,6 +9,9 @@ enum-told c = search needs
 enum-known-step : tie.Need-enum-known-step
 enum-known-step c = search needs
 
+cast-result : tie.Need-cast-result
+cast-result c = search needs
+
 enum-told-2 : tie.Need-enum-told-2
 enum-told-2 c = search needs
 
@@ -51,6 +54,7 @@ is-file-write-spec =
     (tie.spec
     enum-told
     enum-known-step
+    cast-result
     enum-told-2
     enum-told-3
     enum-told-4

@@ -6,8 +6,8 @@ use Rattle.rules.specs.Channels.{listOf}
 use Rattle.rules.specs.Waiting.{rival}
 use Rattle.sources.proofs.SourceReads.{few-pending}
 use borrow.Author.Needs.{needs}
-use Rattle.handlers.proofs.within.Statement.{statement}
-use Rattle.handlers.proofs.within.Tie as tie
+use Rattle.bounds.proofs.within.Statement.{statement}
+use Rattle.bounds.proofs.within.Tie as tie
 
 -- no more than there are sources
 few : (c : tie.After-pending-rivals) → c .pending-rivals .result ≤ 20
