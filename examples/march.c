@@ -35,6 +35,10 @@ int main(void)
     answer = st9_handler_bound(image, sizeof image, NULL, 0, ST9_INTC0, words + to_edge, rest);
     if (answer.kind == ST9_CHANGED && answer.changed == ST9_CHANGED_PENDING)
         printf("no bound for the fan: the write at step %" PRIu64 " erases its alarm\n", to_edge + answer.steps);
+    else if (answer.kind == ST9_WITHIN)
+        printf("the fan is acknowledged by arbitration %" PRIu64 " at the latest\n", answer.bound);
+    else
+        printf("no bound for the fan: kind %" PRIu64 "\n", answer.kind);
     answer = st9_run(image, sizeof image, NULL, 0, words + to_edge, rest);
     for (unsigned source = ST9_INTA0; source < ST9_FIRST_CHANNEL; source++)
         if (answer.kind == ST9_WRITTEN && (answer.lost >> source & 1) != 0)

@@ -169,7 +169,7 @@ enum st9_kind {
     ST9_OTHER_STEP = 22,            /* a step that is no trigger, arbitration or return (of st9_handler_bound: a reset): steps, its index */
     ST9_INTERRUPTS_DISABLED = 23,   /* an arbitration with IEN = 0: steps, its index */
     /* or, where all hold, */
-    ST9_WITHIN = 24,  /* outranking (H), triggers (E), bound (H + E + 1): acknowledged by that arbitration at the latest */
+    ST9_WITHIN = 24,  /* outranking (H), triggers (E), bound (H + E + 1): acknowledged by that arbitration at the latest, if the list has so many */
     /* Of st9_handler_bound alone: one more premise that fails. */
     ST9_CHANGED = 25  /* a write that changes what the bound rests on: steps, its index; changed, what (enum st9_changed) */
 };
@@ -223,13 +223,16 @@ st9_answer st9_run(uint8_t *image, size_t image_length, const uint8_t *channels,
 /* The wait report: the steps up to the acknowledgement of a source by an interrupt, with the arbitrations counted. */
 st9_answer st9_wait(uint8_t *image, size_t image_length, const uint8_t *channels, size_t channels_length, uint32_t source, const uint64_t *words, size_t word_count);
 
-/* Demand 3's bound for a source over the steps: by which arbitration it is acknowledged at the latest, or why nothing is promised. The image is only read. */
+/*
+ * Demand 3's bound for a source over the steps: by which arbitration it is acknowledged at the latest, if they have so many, or why nothing is promised.
+ * Steps that are refused are passed over. The image is only read.
+ */
 st9_answer st9_bound(const uint8_t *image, size_t image_length, const uint8_t *channels, size_t channels_length, uint32_t source, const uint64_t *words, size_t word_count);
 
 /*
  * The same over a handler's steps, its reads and writes included, where each write leaves IAM, CPL, TLI, TLNM, every source's mask, level and DMA
- * enable, and the source's pending bit. Only the steps up to the acknowledgement count, and E has also the pending bits of outranking unmasked
- * sources that writes raise. Never above st9_bound's where both answer one. The image is only read.
+ * enable, and the source's pending bit; no reset, and IEN = 1 at each arbitration. Only the steps up to the acknowledgement count, and E has also
+ * the pending bits of outranking unmasked sources that writes raise. Never above st9_bound's where both answer one. The image is only read.
  */
 st9_answer st9_handler_bound(const uint8_t *image, size_t image_length, const uint8_t *channels, size_t channels_length, uint32_t source, const uint64_t *words, size_t word_count);
 

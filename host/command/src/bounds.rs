@@ -50,6 +50,12 @@ impl List<'_> {
             None => format!("step {index}"),
         }
     }
+
+    /// How many arbitrations the list has.
+    fn arbitrations(self) -> usize {
+        let is_arbitration = |step: &&StepLine| step.operation.step.word() >> 48 == 3;
+        self.steps.iter().skip(self.from).filter(is_arbitration).count()
+    }
 }
 
 impl Claim {
@@ -73,10 +79,10 @@ impl Claim {
     fn counted(self) -> &'static str {
         match self {
             Claim::Demand3 => {
-                "H: outranking sources pending at the start, E: triggers of outranking sources in the list"
+                "H: unmasked outranking sources pending at the start, E: triggers of such in the list"
             }
             Claim::Handlers => {
-                "H: outranking sources pending at the start, E: triggers of outranking sources and bits of theirs that writes raise, up to the acknowledgement"
+                "H: unmasked outranking sources pending at the start, E: triggers of such and bits of theirs that writes raise, up to the acknowledgement"
             }
         }
     }
@@ -85,9 +91,7 @@ impl Claim {
     fn premise(self, premise: Premise) -> String {
         match (self, premise) {
             (_, Premise::Changed { basis, .. }) => format!("a write that {}", change(basis)),
-            (Claim::Handlers, Premise::OtherStep { .. }) => {
-                "a step that is no trigger, arbitration, return, read or write".to_string()
-            }
+            (Claim::Handlers, Premise::OtherStep { .. }) => "a reset".to_string(),
             _ => premise.to_string(),
         }
     }
@@ -151,7 +155,10 @@ impl Claimed {
             (Bound::Within { .. }, beside) => {
                 let beside = beside.map_or(String::new(), |beside| format!("{beside}; "));
                 let counted = self.claim.counted();
-                format!("{words} ({claim}, if the list has so many; {beside}{counted})")
+                let has = list.arbitrations();
+                format!(
+                    "{words} ({claim}, if the list has so many: it has {has}; {beside}{counted})"
+                )
             }
             (Bound::Fails(_), Some(beside)) => format!("{words} ({claim}; {beside})"),
             (Bound::Fails(_), None) => words,

@@ -14,7 +14,7 @@ const SOURCE: &str = "a source as INTB1, CH0, channel 0 or a name of your own";
 const BIT: &str = "TLIP, or a source as INTB1, CH0, channel 0 or a name of your own";
 const COUNT: &str = "a number";
 const REFUSAL: &str = "the number of a refusal";
-const PREMISE: &str = "a premise of a bound, as not pending or masked";
+const PREMISE: &str = "a premise of a bound, as not pending or masked ('st9 help expect' has all)";
 
 /// A premise by the words that the command prints, and by shorter ones.
 type Row = (&'static str, &'static str, Premise);
@@ -28,7 +28,7 @@ const PREMISES: [Row; 10] = [
     ("the source is masked", "masked", Premise::Masked),
     ("the source's level is not above the current one", "level not above", Premise::LevelNotAbove),
     ("a step that is no trigger arbitration or return", "other step", OTHER_STEP),
-    ("a step that is no trigger arbitration return read or write", "other step", OTHER_STEP),
+    ("a reset", "reset", OTHER_STEP),
     (
         "an arbitration with interrupts disabled",
         "interrupts disabled",
@@ -521,7 +521,7 @@ mod tests {
             ),
             (
                 "none: other step at step 1",
-                "none, as a premise fails: a step that is no trigger, arbitration, return, read or write at step 1 (line 8: reset)",
+                "none, as a premise fails: a reset at step 1 (line 8: reset)",
             ),
             (
                 "none: erased at step 4",

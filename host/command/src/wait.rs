@@ -11,7 +11,7 @@ use scenario::{
     bound_json, follow, note, refused, waited_json, waited_words, Account, Bit, Bounds, Case,
     Claim, List, Loss, Names, Object, Proved, Row,
 };
-use st9::{Bound, Refusal, Source, Wait, WaitError};
+use st9::{Bound, Premise, Refusal, Source, Wait, WaitError};
 use std::ffi::OsStr;
 use std::os::unix::ffi::OsStrExt;
 
@@ -95,7 +95,18 @@ impl Report {
             Ok(bounds) => bounds.explained(list(case)),
             Err(refusal) => refused(refusal),
         };
-        output.line(&format!("bound: {bound}"));
+        let later = if self.is_raised_later() {
+            format!(" at the start (a `bound {source}` in the scenario, after it is raised, asks from there)")
+        } else {
+            String::new()
+        };
+        output.line(&format!("bound: {bound}{later}"));
+    }
+
+    /// Whether the source gets no bound because it is not pending at the start, and is acknowledged all the same.
+    fn is_raised_later(&self) -> bool {
+        let demand3 = self.bounds.map(|bounds| bounds.demand3);
+        demand3 == Ok(Bound::Fails(Premise::NotPending)) && self.is_acknowledged(None)
     }
 
     fn waited_words(&self, case: &Case) -> String {

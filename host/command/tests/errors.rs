@@ -193,7 +193,7 @@ raised (INTB0 => '(': expected its closing parenthesis";
 #[test]
 fn bad_expectations_are_told() {
     let words = [
-        ("PREMISE", "a premise of a bound, as not pending or masked"),
+        ("PREMISE", "a premise of a bound, as not pending or masked ('st9 help expect' has all)"),
         ("ANY", "an answer as the command prints it, changed, or a register"),
         ("BYTE", "a byte as 97h, 0x97 or 151, at most FFh"),
         ("BIT", "TLIP, or a source as INTB1, CH0, channel 0 or a name of your own"),

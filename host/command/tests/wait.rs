@@ -14,6 +14,8 @@ fn assert_report(scenario: &str, waited: &str, bound: &str) {
     let ran = st9(&["wait", "-", "--source", "INTB0"], scenario).with_code(0);
     let first = scenario.lines().position(|line| line == "arbitrate").unwrap_or_default() + 1;
     let waited = waited.replace("line N", &format!("line {first}"));
+    let has = scenario.lines().filter(|line| *line == "arbitrate").count();
+    let bound = bound.replace("it has N", &format!("it has {has}"));
     let expected = format!("wait for INTB0 (source 2): {waited}\nbound: {bound}\n");
     assert_eq!(ran.out, expected, "{scenario}");
     assert_eq!(ran.err, "");
@@ -48,7 +50,7 @@ fn premises_of_the_steps() {
     let cases = [
         (
             "read CICR\nreset\narbitrate\n",
-            "a step that is no trigger, arbitration, return, read or write at step 1 (line 8: reset)",
+            "a reset at step 1 (line 8: reset)",
             &*beside("step 0 (line 7: read CICR)"),
         ),
         (
@@ -87,20 +89,21 @@ fn premises_of_the_steps() {
 fn within(outranking: u32, triggers: u32) -> String {
     format!(
         "by arbitration {} at the latest, H {outranking}, E {triggers} \
-         (demand 3, if the list has so many; H: outranking sources pending at the start, E: triggers of outranking sources in the list)",
+         (demand 3, if the list has so many: it has N; H: unmasked outranking sources pending at the start, E: triggers of such in the list)",
         outranking + triggers + 1
     )
 }
 
 /// The same by the handlers' claim.
 fn within_handlers(outranking: u32, triggers: u32, beside: &str) -> String {
-    let counted = "E: triggers of outranking sources and bits of theirs that writes raise, up to the acknowledgement";
+    let counted =
+        "E: triggers of such and bits of theirs that writes raise, up to the acknowledgement";
     let demand3 = format!(
-        "the handlers' claim, if the list has so many; demand 3 does not speak of {beside}"
+        "the handlers' claim, if the list has so many: it has N; demand 3 does not speak of {beside}"
     );
     within(outranking, triggers)
-        .replace("demand 3, if the list has so many", &demand3)
-        .replace("E: triggers of outranking sources in the list", counted)
+        .replace("demand 3, if the list has so many: it has N", &demand3)
+        .replace("E: triggers of such in the list", counted)
 }
 
 /// INTA0 and INTA1 at levels 0 and 1 outrank INTB0; pin 0 counts with IAOS = 1.

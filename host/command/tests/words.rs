@@ -265,15 +265,15 @@ fn returns() {
 
 const WITHIN: Bound = Bound::Within { outranking: 1, triggers: 2, bound: 4 };
 
-/// The explanations of a bound, what stands between the claim and what H and E are left out.
-fn within(claim: &str, beside: &str) -> String {
+/// The explanations of a bound over a list with so many arbitrations; `beside` stands between the claim and what H and E are.
+fn within(claim: &str, has: usize, beside: &str) -> String {
     let triggers = match claim {
-        "demand 3" => "triggers of outranking sources in the list",
-        _ => "triggers of outranking sources and bits of theirs that writes raise, up to the acknowledgement",
+        "demand 3" => "triggers of such in the list",
+        _ => "triggers of such and bits of theirs that writes raise, up to the acknowledgement",
     };
     format!(
-        "by arbitration 4 at the latest, H 1, E 2 ({claim}, if the list has so many; {beside}\
-         H: outranking sources pending at the start, E: {triggers})"
+        "by arbitration 4 at the latest, H 1, E 2 ({claim}, if the list has so many: it has {has}; {beside}\
+         H: unmasked outranking sources pending at the start, E: {triggers})"
     )
 }
 
@@ -282,7 +282,7 @@ fn bounds_of_one_claim() {
     let list = List { steps: &[], from: 0 };
     for (claim, name) in [(Claim::Demand3, "demand 3"), (Claim::Handlers, "the handlers' claim")] {
         let claimed = |bound| Claimed { claim, bound };
-        assert_eq!(claimed(WITHIN).explained(list), within(name, ""));
+        assert_eq!(claimed(WITHIN).explained(list), within(name, 0, ""));
         assert_eq!(claimed(WITHIN).words(list), "by arbitration 4 at the latest, H 1, E 2");
         let fails = claimed(Bound::Fails(Premise::Masked));
         assert_eq!(fails.explained(list), "none, as a premise fails: the source is masked");
@@ -300,12 +300,10 @@ fn premises_of_steps() {
     for (index, from) in [(2, 0), (1, 1)] {
         let place = "at step 2 (line 12: write EIPR 00h)";
         let other = Premise::OtherStep { index };
-        let words = "none, as a premise fails: a step that is no trigger, arbitration";
-        assert_eq!(told(Claim::Demand3, other, from), format!("{words} or return {place}"));
-        assert_eq!(
-            told(Claim::Handlers, other, from),
-            format!("{words}, return, read or write {place}")
-        );
+        let words = "none, as a premise fails:";
+        let demand3 = format!("{words} a step that is no trigger, arbitration or return {place}");
+        assert_eq!(told(Claim::Demand3, other, from), demand3);
+        assert_eq!(told(Claim::Handlers, other, from), format!("{words} a reset {place}"));
     }
     let disabled = Premise::InterruptsDisabled { index: 0 };
     let words = "none, as a premise fails: an arbitration with interrupts disabled (IEN = 0) at step 1 (line 12: arbitrate)";
@@ -346,15 +344,15 @@ fn bounds_of_both_claims() {
     let by = "by arbitration 4 at the latest, H 1, E 2";
     let (claim, none) = ("the handlers' claim", "none, as a premise fails:");
     let both = |long: String, short: String| (long, short);
-    assert_eq!(told(WITHIN, None), both(within("demand 3", ""), format!("{by} (demand 3)")));
+    assert_eq!(told(WITHIN, None), both(within("demand 3", 1, ""), format!("{by} (demand 3)")));
     let read = Bound::Fails(Premise::OtherStep { index: 0 });
     let beside = "demand 3 does not speak of step 0 (line 12: read EIPR)";
-    let expected = both(within(claim, &format!("{beside}; ")), format!("{by} ({claim})"));
+    let expected = both(within(claim, 1, &format!("{beside}; ")), format!("{by} ({claim})"));
     assert_eq!(told(read, Some(WITHIN)), expected);
     let disabled = Bound::Fails(Premise::InterruptsDisabled { index: 2 });
     let arbitrates =
         "demand 3 does not speak of step 2 (line 12: arbitrate) with interrupts disabled; ";
-    let expected = both(within(claim, arbitrates), format!("{by} ({claim})"));
+    let expected = both(within(claim, 1, arbitrates), format!("{by} ({claim})"));
     assert_eq!(told(disabled, Some(WITHIN)), expected);
     let erased = Bound::Fails(Premise::Changed { basis: Basis::Pending, index: 1 });
     let words = format!(

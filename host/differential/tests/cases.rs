@@ -12,7 +12,7 @@ use std::path::{Path, PathBuf};
 
 /// What `cases/` holds, so that a case that gets lost is seen.
 const TOTALS: Totals =
-    Totals { files: 22, cases: 742, distinct: 737, steps: 4986, calls: 626, expectations: 2161 };
+    Totals { files: 22, cases: 742, distinct: 737, steps: 4988, calls: 626, expectations: 2165 };
 
 #[derive(Debug, Default, PartialEq, Eq)]
 struct Totals {

@@ -169,10 +169,10 @@ pub fn bound(
 }
 
 /// The same with reads and writes in the list, as a handler does them: by which arbitration of the list the source is
-/// acknowledged at the latest, or the first premise that fails of the steps up to its acknowledgement. A write may do
-/// all but change the mode, the current level, the top level's enables, a source's mask, level or DMA enable, and
-/// erase the source's own pending bit; the answer has what it changed. Never above `bound`'s where both answer one.
-/// Refused with 1, 2 or 4 as a wait report is.
+/// acknowledged at the latest, if the list has so many, or the first premise that fails of the steps up to its
+/// acknowledgement: no reset, IEN = 1 at each arbitration, and no write that changes the mode, the current level, the
+/// top level's enables, a source's mask, level or DMA enable, or that erases the source's pending bit. The answer has
+/// what a write changed. Never above `bound`'s where both answer one. Refused with 1, 2 or 4 as a wait report is.
 ///
 /// ```
 /// use st9::{handler_bound, register, Basis, Bound, Premise, Source, Step};
