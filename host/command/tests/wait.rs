@@ -191,3 +191,19 @@ fn sources_by_every_name() {
     let ran = st9(&["wait", "--source=0x2", "-"], &scenario).with_code(0);
     assert!(ran.out.starts_with("wait for INTB0 (source 2): not acknowledged"), "{}", ran.out);
 }
+
+/// A source that is raised in the list has no bound from its start: the answer says where to ask.
+#[test]
+fn a_source_that_is_raised_later() {
+    let start = START.replace("EIPR 04h", "EIPR 00h");
+    let bound = "none, as a premise fails: the source is not pending";
+    let later =
+        "at the start (a `bound INTB0` in the scenario, after it is raised, asks from there)";
+    let waited = "acknowledged by arbitration 1 at step 1 (line N)";
+    assert_report(
+        &format!("{start}edge INTB0 falling\narbitrate\n"),
+        waited,
+        &format!("{bound} {later}"),
+    );
+    assert_report(&format!("{start}arbitrate\n"), NEVER, bound);
+}
