@@ -15,7 +15,6 @@ ghost use Rattle.rules.specs.Channels.{listOk, listOf};
 ghost use Rattle.rules.specs.Outcomes.{outcome, verdictOf};
 ghost use Rattle.rules.specs.Steps.{actOf};
 ghost use Rattle.rules.specs.Runs.{isArbitration, oneIf, acknowledges};
-ghost use Rattle.rules.specs.Handlers.{isWrite};
 
 // One step.
 pub fn act(image: &mut [u8], all: Channels, step: Step) -> Answer
@@ -82,21 +81,6 @@ pub fn arbitrations(step: Step) -> usize
         return 1;
     }
     0
-}
-
-// Whether a step is a write.
-pub fn is_write(step: Step) -> bool
-    ensures { λ b. ⌜ b ≡ isWrite step ⌝ }
-{
-    match step {
-        Step::Read(_) => false,
-        Step::Write(_, _) => true,
-        Step::Trigger(_) => false,
-        Step::Arbitrate => false,
-        Step::Return => false,
-        Step::Reset => false,
-        Step::Unknown => false,
-    }
 }
 
 // Whether an answer acknowledges a source: as an interrupt, not by DMA.

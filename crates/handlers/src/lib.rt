@@ -14,7 +14,6 @@ use dispatch::acknowledged;
 use dispatch::act;
 use dispatch::decode;
 use dispatch::is_arbitration;
-use dispatch::is_write;
 use dispatch::verdict_of;
 use rules::Answer;
 use rules::Bounded;
@@ -60,6 +59,21 @@ fn may_stand(step: Step) -> bool
         Step::Trigger(_) => true,
         Step::Arbitrate => true,
         Step::Return => true,
+        Step::Reset => false,
+        Step::Unknown => false,
+    }
+}
+
+// Whether a step is a write.
+fn is_write(step: Step) -> bool
+    ensures { λ b. ⌜ b ≡ isWrite step ⌝ }
+{
+    match step {
+        Step::Read(_) => false,
+        Step::Write(_, _) => true,
+        Step::Trigger(_) => false,
+        Step::Arbitrate => false,
+        Step::Return => false,
         Step::Reset => false,
         Step::Unknown => false,
     }
