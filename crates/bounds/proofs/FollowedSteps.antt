@@ -24,14 +24,14 @@ use Rattle.rules.specs.Sources.{sources, pending}
 use Rattle.rules.specs.Triggers.{edge, triggerVerdict, selects, selectsTop, effectOn, sourceEffect, fire, triggerOf}
 use Rattle.rules.specs.Outcomes.{Outcome, outcome, isRefused}
 use Rattle.rules.specs.Steps.{actOf}
-use Rattle.rules.specs.Runs.{Event, history, oneIf, counted}
+use Rattle.rules.specs.Runs.{Event, eventOf, history, oneIf, counted}
 use Rattle.rules.specs.Waiting.{H, rival, within, triggers, triggersOf}
 use Rattle.rules.specs.Bounds.{firstFrom, otherStep, disabledStep, stepsElse, boundIn}
 use Rattle.rules.proofs.ChannelLaws.{list-short}
 use Rattle.rules.proofs.SelectionLaws.{selectIf-some, selected-there}
 use Rattle.rules.proofs.Bools.{impossible}
 use Rattle.bounds.specs.Followed.{selected, selectedIn, noSource, targetBy, targetOf, firstDisabled, followedFrom}
-use Rattle.dispatch.proofs.NextSteps.{Next, eventOf, history-next}
+use Rattle.dispatch.proofs.NextSteps.{Next, history-next}
 
 -- ---- the source that a step triggered
 
@@ -70,7 +70,7 @@ module _ (m : Image) (cs : List Channel) (ok : listOk cs ≡ true) (among : ℕ 
       go false = refl
   fired t (verdict.Refused r) o e f = refl
 
-  triggers-act : (x : Step) → let o = actOf (state m) cs x in triggers among (eventOf (state m) x (o .answer) (o .state)) ≡ tells x (o .answer)
+  triggers-act : (x : Step) → let o = actOf (state m) cs x in triggers among (eventOf (state m) x (outcome (o .answer) (o .state))) ≡ tells x (o .answer)
   unfolding actOf triggerOf
   triggers-act (step.Read r) = no-target (actOf (state m) cs (step.Read r) .answer)
   triggers-act (step.Write r v) = no-target (actOf (state m) cs (step.Write r v) .answer)
@@ -81,9 +81,9 @@ module _ (m : Image) (cs : List Channel) (ok : listOk cs ≡ true) (among : ℕ 
   triggers-act step.Unknown = no-target (actOf (state m) cs step.Unknown .answer)
 
   -- of a step that was done
-  pub triggers-told : (x : Step) (a : Answer) (t : State) → outcome a t ≡ actOf (state m) cs x → triggers among (eventOf (state m) x a t) ≡ tells x a
+  pub triggers-told : (x : Step) (a : Answer) (t : State) → outcome a t ≡ actOf (state m) cs x → triggers among (eventOf (state m) x (outcome a t)) ≡ tells x a
   triggers-told x a t e =
-      subst (λ (o : Outcome). triggers among (record { before = state m; step = x; outcome = o }) ≡ tells x (o .answer)) (sym e) (triggers-act x)
+      subst (λ (o : Outcome). triggers among (eventOf (state m) x o) ≡ tells x (o .answer)) (sym e) (triggers-act x)
 
 -- ---- the loop
 
@@ -105,19 +105,19 @@ module _ (among : ℕ → Bool) (h end first e : ℕ) where
 
   module _ {s t : State} {cs : List Channel} {ys xs : List Step} {x : Step} {a : Answer} (next : Next s t cs ys xs x a) (n : ℕ) where
     -- a step of another kind is answered at once
-    pub followed-other : otherStep (eventOf s x a t) ≡ true → followedFrom among h end n first e (history s cs ys) ≡ bounded.OtherStep n
+    pub followed-other : otherStep (eventOf s x (outcome a t)) ≡ true → followedFrom among h end n first e (history s cs ys) ≡ bounded.OtherStep n
     unfolding followedFrom firstFrom
     followed-other o = rw (history-next next, o)
 
     -- else the step's index is kept if it is the first arbitration with interrupts disabled, and the step is counted if it is a trigger of the set
-    pub followed-on : otherStep (eventOf s x a t) ≡ false → n < end
+    pub followed-on : otherStep (eventOf s x (outcome a t)) ≡ false → n < end
         → followedFrom among h end n first e (history s cs ys)
-        ≡ followedFrom among h end (n + 1) (firstDisabled first end n x (has (s .image) IEN)) (e + oneIf (triggers among (eventOf s x a t))) (history t cs xs)
+        ≡ followedFrom among h end (n + 1) (firstDisabled first end n x (has (s .image) IEN)) (e + oneIf (triggers among (eventOf s x (outcome a t)))) (history t cs xs)
     unfolding followedFrom firstFrom counted
     followed-on o l =
         rw (history-next next, o, add-assoc)
-        (ap (λ (i : Option ℕ). stepsElse (firstFrom (n + 1) otherStep (history t cs xs)) i h (e + (oneIf (triggers among (eventOf s x a t)) + triggersOf among (history t cs xs))))
-        (go (ltb first end) (disabledStep (eventOf s x a t)) refl))
+        (ap (λ (i : Option ℕ). stepsElse (firstFrom (n + 1) otherStep (history t cs xs)) i h (e + (oneIf (triggers among (eventOf s x (outcome a t))) + triggersOf among (history t cs xs))))
+        (go (ltb first end) (disabledStep (eventOf s x (outcome a t))) refl))
       where
         go : (b d : Bool) → ltb first end ≡ b
             → cond b (some first) (cond d (some n) (firstFrom (n + 1) disabledStep (history t cs xs)))

@@ -13,7 +13,7 @@ use Rattle.rules.specs.Image.{State, imageLength}
 use Rattle.rules.specs.Channels.{listOk}
 use Rattle.rules.specs.Outcomes.{outcome}
 use Rattle.rules.specs.Steps.{actOf, stepOf, decodeOf, stepsOf}
-use Rattle.rules.specs.Runs.{Event, history}
+use Rattle.rules.specs.Runs.{eventOf, history}
 use Rattle.rules.proofs.Refusals.{accepted-acts}
 
 -- after all of the words there is none
@@ -32,12 +32,8 @@ pub next-word : {s t : State} {cs : List Channel} (ws : List ℕ) (n : ℕ) {x :
 unfolding stepsOf
 next-word {s} {t} {cs} ws n {x} l ok h e d = record { first = rw (e, add-one, drop-cons ws n 0 h); did = d ∙ sym (accepted-acts s cs x l ok) }
 
--- the event of a step that got s, answered a and left t
-abbrev pub eventOf : State → Step → Answer → State → Event
-eventOf s x a t = record { before = s; step = x; outcome = outcome a t }
-
 -- the next step's event is the first of the history, and the others go on from what it left
 pub history-next : {s t : State} {cs : List Channel} {ys xs : List Step} {x : Step} {a : Answer} → Next s t cs ys xs x a
-    → history s cs ys ≡ eventOf s x a t ∷ history t cs xs
+    → history s cs ys ≡ eventOf s x (outcome a t) ∷ history t cs xs
 unfolding history
 history-next next = rw (next .first, ← next .did)

@@ -22,7 +22,7 @@ use Rattle.rules.specs.Sources.{sources}
 use Rattle.rules.specs.Outcomes.{Outcome, outcome, isRefused}
 use Rattle.rules.specs.Registers.{writeOf}
 use Rattle.rules.specs.Steps.{actOf}
-use Rattle.rules.specs.Runs.{Event, history, until, oneIf, counted, isArbitration, eventAcknowledges}
+use Rattle.rules.specs.Runs.{Event, eventOf, history, until, oneIf, counted, isArbitration, eventAcknowledges}
 use Rattle.rules.specs.Waiting.{rival, H, selectedBy, triggers}
 use Rattle.rules.specs.Handlers.{isWrite, raised, raisedOf, upTo}
 use Rattle.rules.specs.HandlerBounds.{changes, bases, firstChanged, brokenStep, brokenBy, firstBroken, brokenElse, handlerBoundIn}
@@ -30,13 +30,13 @@ use Rattle.rules.proofs.Bools.{impossible, and-l, and-r}
 use Rattle.rules.proofs.HandlerWrites.{file-leaves}
 use Rattle.rules.proofs.ChangeLaws.{leaves-unchanged, none-first}
 use Rattle.rules.proofs.Counting.{one-le}
-use Rattle.dispatch.proofs.NextSteps.{Next, eventOf, history-next}
+use Rattle.dispatch.proofs.NextSteps.{Next, history-next}
 use Rattle.bounds.specs.Followed.{rivalTriggered}
 use Rattle.bounds.proofs.FollowedSteps.{triggers-told}
-use Rattle.handlers.specs.declared.Broken.{Broken}
-use Rattle.handlers.specs.declared.Broken.the-variants as breaks
+use Rattle.bounds.specs.declared.Premises.{Premises}
+use Rattle.bounds.specs.declared.Premises.the-variants as premises
 use Rattle.handlers.specs.declared.Seen.{Seen}
-use Rattle.handlers.specs.Handled.{broken, mayStand, fileWrite, brokenCall, eventIn, more, Follows, followedFrom}
+use Rattle.handlers.specs.Handled.{broken, mayStand, fileWrite, brokenCall, more, Follows, followedFrom}
 use Rattle.handlers.proofs.RaisedLaws.{raised-few, raised-none}
 
 -- ---- a write, and a step that is none
@@ -62,7 +62,7 @@ module _ (cs : List Channel) (s : ℕ) (m m' : Image) (i : ℕ) where
   write-breaks step.Reset w = absurd (false≢true w)
   write-breaks step.Unknown w = absurd (false≢true w)
 
-  call-breaks : (x : Step) → isWrite x ≡ false → broken (brokenStep cs s m x m' i) ≡ cond (mayStand x) breaks.Nothing (breaks.By (bounded.OtherStep i))
+  call-breaks : (x : Step) → isWrite x ≡ false → broken (brokenStep cs s m x m' i) ≡ cond (mayStand x) premises.Hold (premises.Fail (bounded.OtherStep i))
   unfolding brokenStep
   call-breaks (step.Read r) w = refl
   call-breaks (step.Write r v) w = absurd (false≢true (sym w))
@@ -75,11 +75,11 @@ module _ (cs : List Channel) (s : ℕ) (m m' : Image) (i : ℕ) where
 -- ---- a step that is followed
 
 module _ (start before after : Image) (cs : List Channel) (s : ℕ) (x : Step) (i : ℕ) (a : Answer) (did : outcome a (state after) ≡ actOf (state before) cs x) where
-  abbrev seen : Broken → ℕ → Seen
+  abbrev seen : Premises → ℕ → Seen
   seen b n = record { answer = a; broken = b; more = n }
 
   -- a write that was done
-  pub follows-write : isWrite x ≡ true → isRefused a ≡ false → (b : Broken) (n : ℕ) → b ≡ broken (firstChanged (changes cs s before after) bases i)
+  pub follows-write : isWrite x ≡ true → isRefused a ≡ false → (b : Premises) (n : ℕ) → b ≡ broken (firstChanged (changes cs s before after) bases i)
       → n ≡ raised cs (rival start cs s) before after → Follows start before cs s x i (seen b n) after
   unfolding brokenBy
   follows-write w r b n p q =
@@ -90,17 +90,17 @@ module _ (start before after : Image) (cs : List Channel) (s : ℕ) (x : Step) (
       }
 
   -- one that was refused
-  pub follows-refused : isWrite x ≡ true → isRefused a ≡ true → Follows start before cs s x i (seen breaks.Nothing 0) after
+  pub follows-refused : isWrite x ≡ true → isRefused a ≡ true → Follows start before cs s x i (seen premises.Hold 0) after
   unfolding brokenBy
   follows-refused w r = record { did = did; breaks = rw (write-apart x w .0, r); counts = rw (r, w) }
 
   -- one of R0 to R239 but CICR
-  pub follows-file : length before ≡ imageLength → listOk cs ≡ true → s < sources cs → fileWrite x ≡ true → Follows start before cs s x i (seen breaks.Nothing 0) after
+  pub follows-file : length before ≡ imageLength → listOk cs ≡ true → s < sources cs → fileWrite x ≡ true → Follows start before cs s x i (seen premises.Hold 0) after
   unfolding brokenBy brokenStep actOf
   follows-file long ok there w = go x w did
     where
       -- whether it is refused or not
-      either : (t : Bool) → breaks.Nothing ≡ broken (cond t none none)
+      either : (t : Bool) → premises.Hold ≡ broken (cond t none none)
       either true = refl
       either false = refl
 
@@ -108,7 +108,7 @@ module _ (start before after : Image) (cs : List Channel) (s : ℕ) (x : Step) (
       no-more true = refl
       no-more false = refl
 
-      go : (x : Step) → fileWrite x ≡ true → outcome a (state after) ≡ actOf (state before) cs x → Follows start before cs s x i (seen breaks.Nothing 0) after
+      go : (x : Step) → fileWrite x ≡ true → outcome a (state after) ≡ actOf (state before) cs x → Follows start before cs s x i (seen premises.Hold 0) after
       go (step.Read r) w e = absurd (false≢true w)
       go (step.Write r v) w e =
           let low = ltb-true r 240 (and-l (ltb r 240) (not (eqb r CICR)) w) in
@@ -128,7 +128,7 @@ module _ (start before after : Image) (cs : List Channel) (s : ℕ) (x : Step) (
       go step.Unknown w e = absurd (false≢true w)
 
   -- any other step
-  pub follows-call : listOk cs ≡ true → isWrite x ≡ false → (d : Bool) (b : Broken) (n : ℕ) → d ≡ (isArbitration x && not (has before IEN)) → b ≡ brokenCall x a d i
+  pub follows-call : listOk cs ≡ true → isWrite x ≡ false → (d : Bool) (b : Premises) (n : ℕ) → d ≡ (isArbitration x && not (has before IEN)) → b ≡ brokenCall x a d i
       → n ≡ oneIf (rivalTriggered start cs s x a) → Follows start before cs s x i (seen b n) after
   unfolding brokenBy
   follows-call ok w d b n e p q =
@@ -138,7 +138,7 @@ module _ (start before after : Image) (cs : List Channel) (s : ℕ) (x : Step) (
         counts = rw w (q ∙ ap oneIf (sym (triggers-told before cs ok (rival start cs s) x a (state after) did)) ∙ sym (add-zero _));
       }
     where
-      go : (d r : Bool) → cond d (breaks.By (bounded.InterruptsDisabled i)) (cond r breaks.Nothing (cond (mayStand x) breaks.Nothing (breaks.By (bounded.OtherStep i))))
+      go : (d r : Bool) → cond d (premises.Fail (bounded.InterruptsDisabled i)) (cond r premises.Hold (cond (mayStand x) premises.Hold (premises.Fail (bounded.OtherStep i))))
           ≡ broken (cond d (some (bounded.InterruptsDisabled i)) (cond r none (brokenStep cs s before x after i)))
       go true r = refl
       go false true = refl
@@ -153,14 +153,14 @@ follows-few start before after cs s x i f ok q = omega (arith, q .counts, few x 
     among : ℕ → Bool
     among = rival start cs s
 
-    at-most-one : (x : Step) → isWrite x ≡ false → more cs among (eventIn before x (f .answer) after) ≤ mostRecords
-    at-most-one x w = rw w (omega (arith, one-le (triggers among (eventIn before x (f .answer) after))))
+    at-most-one : (x : Step) → isWrite x ≡ false → more cs among (eventOf (state before) x (outcome (f .answer) (state after))) ≤ mostRecords
+    at-most-one x w = rw w (omega (arith, one-le (triggers among (eventOf (state before) x (outcome (f .answer) (state after))))))
 
     written : (r v : ℕ) (refused : Bool) → oneIf (not refused && false) + cond (true && not refused) (raised cs among before (writeOf before cs r v .image)) 0 ≤ mostRecords
     written r v true = omega arith
     written r v false = omega (arith, raised-few before cs ok among r v)
 
-    few : (x : Step) → outcome (f .answer) (state after) ≡ actOf (state before) cs x → more cs among (eventIn before x (f .answer) after) ≤ mostRecords
+    few : (x : Step) → outcome (f .answer) (state after) ≡ actOf (state before) cs x → more cs among (eventOf (state before) x (outcome (f .answer) (state after))) ≤ mostRecords
     few (step.Read r) e = at-most-one (step.Read r) refl
     few (step.Write r v) e =
         let same : after ≡ writeOf before cs r v .image = ap (λ (o : Outcome). o .state .image) e in
@@ -174,11 +174,11 @@ follows-few start before after cs s x i f ok q = omega (arith, q .counts, few x 
 -- ---- the loop
 
 -- what the code has of what a step breaks, back
-pub broken-some : (o : Option Bounded) (b : Bounded) → broken o ≡ breaks.By b → o ≡ some b
+pub broken-some : (o : Option Bounded) (b : Bounded) → broken o ≡ premises.Fail b → o ≡ some b
 broken-some none b e = impossible (cc)
 broken-some (some q) b e = let same : q ≡ b = cc in ap some same
 
-pub broken-none : (o : Option Bounded) → broken o ≡ breaks.Nothing → o ≡ none
+pub broken-none : (o : Option Bounded) → broken o ≡ premises.Hold → o ≡ none
 broken-none none e = refl
 broken-none (some q) e = impossible (cc)
 
@@ -195,7 +195,7 @@ module _ (cs : List Channel) (source : ℕ) (among : ℕ → Bool) (h e : ℕ) w
 
   module _ {s t : State} {ys xs : List Step} {x : Step} {a : Answer} (next : Next s t cs ys xs x a) (n : ℕ) where
     abbrev event : Event
-    event = eventOf s x a t
+    event = eventOf s x (outcome a t)
 
     -- a step that breaks a premise is answered at once
     pub followed-broken : (b : Bounded) → brokenBy cs source event n ≡ some b → followedFrom cs source among h n e (upTo source (history s cs ys)) ≡ b

@@ -17,12 +17,12 @@ use Rattle.rules.specs.Image.{Image, state, CICR}
 use Rattle.rules.specs.Sources.{unmasked, dmaEnabled, level}
 use Rattle.rules.specs.Outcomes.{outcome, isRefused}
 use Rattle.rules.specs.Steps.{actOf}
-use Rattle.rules.specs.Runs.{Event, oneIf}
+use Rattle.rules.specs.Runs.{Event, eventOf, oneIf}
 use Rattle.rules.specs.Waiting.{rival, triggers, triggersOf}
 use Rattle.rules.specs.Handlers.{raisedBy, raisedOf}
 use Rattle.rules.specs.HandlerBounds.{differ, brokenBy, firstBroken, brokenElse}
-use Rattle.handlers.specs.declared.Broken.{Broken}
-use Rattle.handlers.specs.declared.Broken.the-variants as breaks
+use Rattle.bounds.specs.declared.Premises.{Premises}
+use Rattle.bounds.specs.declared.Premises.the-variants as premises
 use Rattle.handlers.specs.declared.Seen.{Seen}
 
 -- ---- what a write changed
@@ -39,10 +39,10 @@ sourceChanges cs before after basis.Level k = not (eqb (level after cs k) (level
 
 -- ---- what a step breaks
 
--- as the code has it
-abbrev pub broken : Option Bounded → Broken
-broken none = breaks.Nothing
-broken (some b) = breaks.By b
+-- as the code has it: the premises hold where nothing is broken
+abbrev pub broken : Option Bounded → Premises
+broken none = premises.Hold
+broken (some b) = premises.Fail b
 
 -- a step of a kind that may stand in the list, a write where it leaves what the bound rests on
 abbrev pub mayStand : Step → Bool
@@ -65,15 +65,11 @@ fileWrite step.Reset = false
 fileWrite step.Unknown = false
 
 -- what a step breaks that is no write, by its answer and whether it is an arbitration with interrupts disabled
-abbrev pub brokenCall : Step → Answer → Bool → ℕ → Broken
+abbrev pub brokenCall : Step → Answer → Bool → ℕ → Premises
 brokenCall x a disabled i =
-    cond disabled (breaks.By (bounded.InterruptsDisabled i)) (cond (isRefused a) breaks.Nothing (cond (mayStand x) breaks.Nothing (breaks.By (bounded.OtherStep i))))
+    cond disabled (premises.Fail (bounded.InterruptsDisabled i)) (cond (isRefused a) premises.Hold (cond (mayStand x) premises.Hold (premises.Fail (bounded.OtherStep i))))
 
 -- ---- a step that is followed
-
--- a step with the image that it got, what it answered and left
-abbrev pub eventIn : Image → Step → Answer → Image → Event
-eventIn before x a after = record { before = state before; step = x; outcome = outcome a (state after) }
 
 -- how many of a set an event triggers or raises
 abbrev pub more : List Channel → (ℕ → Bool) → Event → ℕ
@@ -82,8 +78,8 @@ more cs among e = oneIf (triggers among e) + raisedBy cs among e
 -- the step x at index i, from the image `before` in a list from `start`: done, with what it breaks, and how many of the rivals at the start it triggers or raises
 pub record Follows (start before : Image) (cs : List Channel) (s : ℕ) (x : Step) (i : ℕ) (f : Seen) (after : Image) : Type 0 where
   pub did : outcome (f .answer) (state after) ≡ actOf (state before) cs x
-  pub breaks : f .broken ≡ broken (brokenBy cs s (eventIn before x (f .answer) after) i)
-  pub counts : f .more ≡ more cs (rival start cs s) (eventIn before x (f .answer) after)
+  pub breaks : f .broken ≡ broken (brokenBy cs s (eventOf (state before) x (outcome (f .answer) (state after))) i)
+  pub counts : f .more ≡ more cs (rival start cs s) (eventOf (state before) x (outcome (f .answer) (state after)))
 
 -- ---- the loop
 

@@ -1,6 +1,6 @@
 // What a write changed of what the bound rests on, by the image before it and after it; and how many unmasked sources outranking ours it made pending.
-use crate::Broken;
 use bits::has_bit;
+use bounds::Premises;
 use rules::Basis;
 use rules::Bounded;
 use rules::CICR;
@@ -115,7 +115,7 @@ pub(crate) fn first_changed(
     all: Channels,
     ours: usize,
     index: usize,
-) -> Broken
+) -> Premises
     requires { ⌜ (length (now before) ≡ imageLength) × (length (now after) ≡ imageLength) × (listOk (listOf all) ≡ true) × (ours < sources (listOf all)) ⌝ }
     ensures { λ b. ⌜ b ≡ broken (firstChanged (changes (listOf all) ours (now (before .entry)) (now (after .entry))) bases index) ⌝ }
 {
@@ -123,11 +123,11 @@ pub(crate) fn first_changed(
     while k < BASES {
         let basis = basis_at(k);
         if changed(before, after, all, ours, basis) {
-            return Broken::By(Bounded::Changed { basis, index });
+            return Premises::Fail(Bounded::Changed { basis, index });
         }
         k += 1;
     }
-    Broken::Nothing
+    Premises::Hold
 }
 
 // 1 where the write made source k pending, and k is an unmasked source outranking ours at the start, else 0.

@@ -36,16 +36,11 @@ ghost use Rattle.rules.specs.Bounds.{startElse};
 ghost use Rattle.rules.specs.HandlerBounds.{handlerBoundIn};
 ghost use Rattle.handlers.specs.Handled.{mayStand, fileWrite, brokenCall, Follows};
 
-// What a step breaks of the premises on the steps: nothing, or what is answered of it.
-pub enum Broken {
-    Nothing,
-    By(Bounded),
-}
-
-// What a step that was followed answered, what it broke, and how many unmasked sources outranking ours it triggered or made pending by a write.
+// What a step that was followed answered, whether the premises hold of it, and how many unmasked sources outranking ours it triggered or made pending by a
+// write.
 pub struct Seen {
     pub answer: Answer,
-    pub broken: Broken,
+    pub broken: Premises,
     pub more: usize,
 }
 
@@ -95,20 +90,20 @@ fn is_file_write(step: Step) -> bool
 }
 
 // What a step that is no write breaks, by its answer and whether it is an arbitration with interrupts disabled.
-fn broken_call(step: Step, a: Answer, disabled: bool, index: usize) -> Broken
+fn broken_call(step: Step, a: Answer, disabled: bool, index: usize) -> Premises
     ensures { λ b. ⌜ b ≡ brokenCall step a disabled index ⌝ }
 {
     if disabled {
-        return Broken::By(Bounded::InterruptsDisabled { index });
+        return Premises::Fail(Bounded::InterruptsDisabled { index });
     }
     match verdict_of(a) {
         Verdict::Accepted => {
             if may_stand(step) {
-                return Broken::Nothing;
+                return Premises::Hold;
             }
-            Broken::By(Bounded::OtherStep { index })
+            Premises::Fail(Bounded::OtherStep { index })
         }
-        Verdict::Refused(_) => Broken::Nothing,
+        Verdict::Refused(_) => Premises::Hold,
     }
 }
 
@@ -138,7 +133,7 @@ fn follow_write(
         }
         Verdict::Refused(_) => Seen {
             answer,
-            broken: Broken::Nothing,
+            broken: Premises::Hold,
             more: 0,
         },
     }
@@ -160,7 +155,7 @@ fn follow(
         let answer = act(copy, all, step);
         return Seen {
             answer,
-            broken: Broken::Nothing,
+            broken: Premises::Hold,
             more: 0,
         };
     }
@@ -191,10 +186,10 @@ fn followed(image: &[u8], all: Channels, source: u32, words: &[u64]) -> Bounded
         let f = follow(image, &mut copy, all, ours, decode(words[done]), done);
         let broken = f.broken;
         match broken {
-            Broken::By(b) => {
+            Premises::Fail(b) => {
                 return b;
             }
-            Broken::Nothing => {
+            Premises::Hold => {
                 triggers += f.more;
                 done += 1;
                 let answer = f.answer;

@@ -13,9 +13,9 @@ use Rattle.rules.specs.declared.Verdict.the-variants as verdict
 use Rattle.rules.specs.declared.Ran.the-variants as ran
 use Rattle.rules.specs.declared.Waited.the-variants as waited
 use Rattle.rules.specs.Image.{State}
-use Rattle.rules.specs.Outcomes.{verdictOf}
-use Rattle.rules.specs.Runs.{Event, history, stateAfter, oneIf, counted, until, runEvents, lastAnswer, runOutcome, runReport, acknowledges, isArbitration, waitEvents, waitOutcome, waitReport}
-use Rattle.dispatch.proofs.NextSteps.{Next, eventOf, history-next}
+use Rattle.rules.specs.Outcomes.{outcome, verdictOf}
+use Rattle.rules.specs.Runs.{Event, eventOf, history, stateAfter, oneIf, counted, until, runEvents, lastAnswer, runOutcome, runReport, acknowledges, isArbitration, waitEvents, waitOutcome, waitReport}
+use Rattle.dispatch.proofs.NextSteps.{Next, history-next}
 
 -- ---- no step left
 
@@ -46,12 +46,12 @@ cond-none false = refl
 
 module _ {s t : State} {cs : List Channel} {ys xs : List Step} {x : Step} {a : Answer} (next : Next s t cs ys xs x a) where
   -- accepted, the run's events go on after it
-  events-on : verdictOf a ≡ verdict.Accepted → runEvents s cs ys ≡ eventOf s x a t ∷ runEvents t cs xs
+  events-on : verdictOf a ≡ verdict.Accepted → runEvents s cs ys ≡ eventOf s x (outcome a t) ∷ runEvents t cs xs
   unfolding until
   events-on v = rw (history-next next, v)
 
   -- refused, it is the last
-  events-stop : {r : Refusal} → verdictOf a ≡ verdict.Refused r → runEvents s cs ys ≡ eventOf s x a t ∷ []
+  events-stop : {r : Refusal} → verdictOf a ≡ verdict.Refused r → runEvents s cs ys ≡ eventOf s x (outcome a t) ∷ []
   unfolding until
   events-stop v = rw (history-next next, v)
 

@@ -18,7 +18,7 @@ use Rattle.rules.specs.declared.Bounded.the-variants as bounded
 use Rattle.rules.specs.Image.{Image, state, has, IEN}
 use Rattle.rules.specs.Runs.{Event, history, eventRefused, isArbitration, eventAcknowledges, waitVerdict}
 use Rattle.rules.specs.Waiting.{rival, H, Start}
-use Rattle.rules.specs.Handlers.{isWrite, EAndRaised, MayDo, Handles, upTo}
+use Rattle.rules.specs.Handlers.{isWrite, EAndRaised, MayDo, May, Enabled, Handles, upTo}
 use Rattle.rules.specs.Steps.{stepsOf}
 use Rattle.rules.specs.Bounds.{startElse, disabledStep, unlessRefused, boundOf, BoundSays}
 use Rattle.rules.specs.Promises.{HandlerBoundNotAbove, HandlerBoundWaits}
@@ -63,9 +63,7 @@ module _ (cs : List Channel) (s : ℕ) where
 
   -- the premises on one event
   abbrev Meets : Event → Type 0
-  Meets e =
-      (eventRefused e ≡ false → MayDo cs s (e .before .image) (e .step) (e .outcome .state .image))
-      × (isArbitration (e .step) ≡ true → has (e .before .image) IEN ≡ true)
+  Meets e = May cs s e × Enabled e
 
   abbrev EventBreaks : Event → ℕ → Option Bounded → Type 0
   EventBreaks e i none = Meets e
@@ -80,7 +78,7 @@ module _ (cs : List Channel) (s : ℕ) where
       go (disabledStep e) (eventRefused e) (brokenStep cs s (e .before .image) (e .step) (e .outcome .state .image) i) refl refl
       (step-breaks (e .before .image) (e .step) (e .outcome .state .image) i)
     where
-      enabled : disabledStep e ≡ false → isArbitration (e .step) ≡ true → has (e .before .image) IEN ≡ true
+      enabled : disabledStep e ≡ false → Enabled e
       enabled = implies (isArbitration (e .step)) (has (e .before .image) IEN)
 
       go : (d r : Bool) (o : Option Bounded) → disabledStep e ≡ d → eventRefused e ≡ r → StepBreaks (e .before .image) (e .step) (e .outcome .state .image) i o

@@ -18,7 +18,7 @@ use Rattle.rules.specs.declared.Ran.the-variants as ran
 use Rattle.rules.specs.Image.{State}
 use Rattle.rules.specs.Outcomes.{refuses, isRefused, verdictOf}
 use Rattle.rules.specs.Steps.{lentVerdict, stepOf}
-use Rattle.rules.specs.Runs.{Event, history, stateAfter, eventRefused, oneIf, anyEvent, counted, until, stepsDone, runEvents, lastAnswer, runOutcome, ranIf, runReport, runIf, runOf}
+use Rattle.rules.specs.Runs.{Event, eventOf, history, stateAfter, eventRefused, oneIf, anyEvent, counted, until, stepsDone, runEvents, lastAnswer, runOutcome, ranIf, runReport, runIf, runOf}
 use Rattle.rules.proofs.Refusals.{refused-same}
 use Rattle.rules.proofs.Histories.{history-length, after-append, last-append, counted-append, refusedIn, run-goes-on, run-ends, run-whole, run-after}
 
@@ -76,7 +76,7 @@ unfolding anyEvent counted until history stateAfter lastAnswer
 refused-midway s cs ys x zs r v h p =
     let es : List Event = history s cs ys in
     let t : State = stateAfter s es in
-    let e : Event = record { before = t; step = x; outcome = stepOf t cs x } in
+    let e : Event = eventOf t x (stepOf t cs x) in
     let f : eventRefused e ≡ true = ap isRefused p in
     run-told s cs (ys ++ (x ∷ zs)) v (es ++ (e ∷ [])) (length ys) (answer.Refused r) t
     (run-goes-on s cs ys (x ∷ zs) h ∙ ap (λ (b : Bool). es ++ (e ∷ cond b [] (runEvents (stepOf t cs x .state) cs zs))) f)

@@ -78,17 +78,23 @@ MayDo cs s before step.Return after = Unit {0}
 MayDo cs s before step.Reset after = ⊥
 MayDo cs s before step.Unknown after = ⊥
 
--- each event that isn't refused is such a step
+-- an event is such a step if it isn't refused
+abbrev pub May : List Channel → ℕ → Event → Type 0
+May cs s e = eventRefused e ≡ false → MayDo cs s (e .before .image) (e .step) (e .outcome .state .image)
+
+-- if it is an arbitration, interrupts are enabled, on the image that it gets
+abbrev pub Enabled : Event → Type 0
+Enabled e = isArbitration (e .step) ≡ true → has (e .before .image) IEN ≡ true
+
+-- each event is such a step
 abbrev pub AllMay : List Channel → ℕ → List Event → Type 0
 AllMay cs s [] = Unit {0}
-AllMay cs s (e ∷ es) = (eventRefused e ≡ false → MayDo cs s (e .before .image) (e .step) (e .outcome .state .image)) × AllMay cs s es
+AllMay cs s (e ∷ es) = May cs s e × AllMay cs s es
 
--- each event that isn't refused is such a step, and interrupts are enabled at each arbitration, on the image that it gets
+-- each event is such a step, and interrupts are enabled at each arbitration
 abbrev pub Handles : List Channel → ℕ → List Event → Type 0
 Handles cs s [] = Unit {0}
-Handles cs s (e ∷ es) =
-    (eventRefused e ≡ false → MayDo cs s (e .before .image) (e .step) (e .outcome .state .image))
-    × (isArbitration (e .step) ≡ true → has (e .before .image) IEN ≡ true) × Handles cs s es
+Handles cs s (e ∷ es) = May cs s e × Enabled e × Handles cs s es
 
 -- ---- the claim
 

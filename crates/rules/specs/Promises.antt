@@ -18,7 +18,7 @@ use Rattle.rules.specs.Registers.{viewOf, viewVerdict}
 use Rattle.rules.specs.Outcomes.{outcome}
 use Rattle.rules.specs.Sources.{pending}
 use Rattle.rules.specs.Steps.{stepOf, decodeOf, stepsOf}
-use Rattle.rules.specs.Runs.{Event, stateAfter, runOf, waitOf}
+use Rattle.rules.specs.Runs.{Event, eventOf, stateAfter, runOf, waitOf}
 use Rattle.rules.specs.Waiting.{Demand3Of, Demand3OfRun, Demand3OfWait}
 use Rattle.rules.specs.Handlers.{HandlersOf, EnabledHandlersOf, HandlersOfRun, HandlersOfWait}
 use Rattle.rules.specs.Bounds.{boundOf, whereBounded, BoundSays, WaitKeeps}
@@ -127,7 +127,7 @@ AllDo before cs (c ∷ made) = Does before cs (c .step) (c .answer) (c .after) �
 unfoldable pub eventsOf : Image → List Made → List Event
 eventsOf before [] = []
 eventsOf before (c ∷ made) =
-    record { before = state before; step = c .step; outcome = outcome (c .answer) (state (c .after)) } ∷ eventsOf (c .after) made
+    eventOf (state before) (c .step) (outcome (c .answer) (state (c .after))) ∷ eventsOf (c .after) made
 
 -- what demand 3 says of them
 abbrev pub CallsDemand3 : Type 0

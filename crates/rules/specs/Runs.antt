@@ -29,10 +29,14 @@ pub record Event : Type 0 where
   pub step : Step
   pub outcome : Outcome
 
+-- the event of a step that got s and answered and left o
+abbrev pub eventOf : State → Step → Outcome → Event
+eventOf s x o = record { before = s; step = x; outcome = o }
+
 -- each step gets the state that the one before it left, a refused one too (which leaves what it got)
 unfoldable pub history : State → List Channel → List Step → List Event
 history s cs [] = []
-history s cs (x ∷ xs) = let o = stepOf s cs x in record { before = s; step = x; outcome = o } ∷ history (o .state) cs xs
+history s cs (x ∷ xs) = let o = stepOf s cs x in eventOf s x o ∷ history (o .state) cs xs
 
 -- the state after the last of some events
 unfoldable pub stateAfter : State → List Event → State

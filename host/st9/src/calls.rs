@@ -42,19 +42,7 @@ pub(crate) fn wait(
 }
 
 pub(crate) fn bound(image: &[u8], channels: &[Channel], source: u32, words: &[u64]) -> sys::Answer {
-    let (records, length) = bytes(channels);
-    // SAFETY: as in `run`; the image is only read.
-    unsafe {
-        sys::st9_bound(
-            image.as_ptr(),
-            image.len(),
-            records,
-            length,
-            source,
-            words.as_ptr(),
-            words.len(),
-        )
-    }
+    either_bound(sys::st9_bound, image, channels, source, words)
 }
 
 pub(crate) fn handler_bound(
@@ -63,18 +51,24 @@ pub(crate) fn handler_bound(
     source: u32,
     words: &[u64],
 ) -> sys::Answer {
+    either_bound(sys::st9_handler_bound, image, channels, source, words)
+}
+
+/// One of the two functions that answer a bound.
+type BoundCall =
+    unsafe extern "C" fn(*const u8, usize, *const u8, usize, u32, *const u64, usize) -> sys::Answer;
+
+fn either_bound(
+    call: BoundCall,
+    image: &[u8],
+    channels: &[Channel],
+    source: u32,
+    words: &[u64],
+) -> sys::Answer {
     let (records, length) = bytes(channels);
     // SAFETY: as in `run`; the image is only read.
     unsafe {
-        sys::st9_handler_bound(
-            image.as_ptr(),
-            image.len(),
-            records,
-            length,
-            source,
-            words.as_ptr(),
-            words.len(),
-        )
+        call(image.as_ptr(), image.len(), records, length, source, words.as_ptr(), words.len())
     }
 }
 
