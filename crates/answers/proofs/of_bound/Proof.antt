@@ -3,81 +3,6 @@ use borrow.Author.Needs.{needs}
 use Rattle.answers.proofs.of_bound.Statement.{statement}
 use Rattle.answers.proofs.of_bound.Tie as tie
 
-enum-known-b : tie.Need-enum-known-b
-enum-known-b c = search needs
-
-refused-requires : tie.Need-refused-requires
-refused-requires c κs = search needs
-
-enum-told : tie.Need-enum-told
-enum-told c = search needs
-
-values-requires : tie.Need-values-requires
-values-requires c κs = search needs
-
-enum-told-2 : tie.Need-enum-told-2
-enum-told-2 c = search needs
-
-values-requires-2 : tie.Need-values-requires-2
-values-requires-2 c κs = search needs
-
-enum-told-3 : tie.Need-enum-told-3
-enum-told-3 c = search needs
-
-values-requires-3 : tie.Need-values-requires-3
-values-requires-3 c κs = search needs
-
-enum-told-4 : tie.Need-enum-told-4
-enum-told-4 c = search needs
-
-values-requires-4 : tie.Need-values-requires-4
-values-requires-4 c κs = search needs
-
-enum-told-5 : tie.Need-enum-told-5
-enum-told-5 c = search needs
-
-values-requires-5 : tie.Need-values-requires-5
-values-requires-5 c κs = search needs
-
-enum-told-6 : tie.Need-enum-told-6
-enum-told-6 c = search needs
-
-values-requires-6 : tie.Need-values-requires-6
-values-requires-6 c κs = search needs
-
-enum-told-7 : tie.Need-enum-told-7
-enum-told-7 c = search needs
-
-values-requires-7 : tie.Need-values-requires-7
-values-requires-7 c κs = search needs
-
-enum-known-b-2 : tie.Need-enum-known-b-2
-enum-known-b-2 c = search needs
-
-at-step-requires : tie.Need-at-step-requires
-at-step-requires c κs = search needs
-
-enum-known-b-3 : tie.Need-enum-known-b-3
-enum-known-b-3 c = search needs
-
-at-step-requires-2 : tie.Need-at-step-requires-2
-at-step-requires-2 c κs = search needs
-
-enum-known-b-4 : tie.Need-enum-known-b-4
-enum-known-b-4 c = search needs
-
-basis-number-requires : tie.Need-basis-number-requires
-basis-number-requires c κs = search needs
-
-at-step-requires-3 : tie.Need-at-step-requires-3
-at-step-requires-3 c κs = search needs
-
-enum-known-b-5 : tie.Need-enum-known-b-5
-enum-known-b-5 c = search needs
-
-values-requires-8 : tie.Need-values-requires-8
-values-requires-8 c κs = search needs
-
 returns : tie.Need-returns
 returns c = simp (c .refused .ensures, c .before .before .b .given .1)
 
@@ -118,31 +43,31 @@ pub of-bound-spec : {M : Type 1} → statement M
 of-bound-spec =
     tie.close
     (tie.spec
-    enum-known-b
-    refused-requires
-    enum-told
-    values-requires
-    enum-told-2
-    values-requires-2
-    enum-told-3
-    values-requires-3
-    enum-told-4
-    values-requires-4
-    enum-told-5
-    values-requires-5
-    enum-told-6
-    values-requires-6
-    enum-told-7
-    values-requires-7
-    enum-known-b-2
-    at-step-requires
-    enum-known-b-3
-    at-step-requires-2
-    enum-known-b-4
-    basis-number-requires
-    at-step-requires-3
-    enum-known-b-5
-    values-requires-8
+    (λ c. search needs)
+    (λ c κs. search needs)
+    (λ c. search needs)
+    (λ c κs. search needs)
+    (λ c. search needs)
+    (λ c κs. search needs)
+    (λ c. search needs)
+    (λ c κs. search needs)
+    (λ c. search needs)
+    (λ c κs. search needs)
+    (λ c. search needs)
+    (λ c κs. search needs)
+    (λ c. search needs)
+    (λ c κs. search needs)
+    (λ c. search needs)
+    (λ c κs. search needs)
+    (λ c. search needs)
+    (λ c κs. search needs)
+    (λ c. search needs)
+    (λ c κs. search needs)
+    (λ c. search needs)
+    (λ c κs. search needs)
+    (λ c κs. search needs)
+    (λ c. search needs)
+    (λ c κs. search needs)
     returns
     returns-2
     returns-3

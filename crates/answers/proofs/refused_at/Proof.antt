@@ -3,11 +3,8 @@ use borrow.Author.Needs.{needs}
 use Rattle.answers.proofs.refused_at.Statement.{statement}
 use Rattle.answers.proofs.refused_at.Tie as tie
 
-refusal-number-requires : tie.Need-refusal-number-requires
-refusal-number-requires c κs = search needs
-
 returns : tie.Need-returns
 returns c = simp (c .refusal-number .ensures)
 
 pub refused-at-spec : {M : Type 1} → statement M
-refused-at-spec = tie.close (tie.spec refusal-number-requires returns)
+refused-at-spec = tie.close (tie.spec (λ c κs. search needs) returns)

@@ -32,24 +32,9 @@ taken c =
     let s = c .before .before .before .before .before .before .before .before .before .before .before in
     source-taken _ _ (s .good .1 .0) (s .pre .1) (there c .0) (there c .1)
 
-in-service-requires : tie.Need-in-service-requires
-in-service-requires c κs = search needs
-
-same-length : tie.Need-same-length
-same-length c = search needs
-
 returns : tie.Need-returns
 unfolding arbitration
 returns c = simp (sym (c .before .in-service .ensures) ∙ c .if1 .taken)
-
-top-level-requires : tie.Need-top-level-requires
-top-level-requires c κs = search needs
-
-enter-top-requires : tie.Need-enter-top-requires
-enter-top-requires c κs = search needs
-
-same-length-2 : tie.Need-same-length-2
-same-length-2 c = search needs
 
 returns-2 : tie.Need-returns-2
 unfolding arbitration
@@ -58,23 +43,8 @@ returns-2 c =
     let e = d .before .before .before in
     simp (sym (e .before .in-service .ensures) ∙ e .if1 .left, sym (d .before .top-level .ensures) ∙ d .if2 .taken, c .before .before .enter-top .ensures)
 
-winner-of-requires : tie.Need-winner-of-requires
-winner-of-requires c κs = search needs
-
-enum-told : tie.Need-enum-told
-enum-told c = search needs
-
-enum-known-source : tie.Need-enum-known-source
-enum-known-source c = search needs
-
-cast-c : tie.Need-cast-c
-cast-c c = search needs
-
 sub-c : tie.Need-sub-c
 sub-c c = there (c .before) .1
-
-mul-c : tie.Need-mul-c
-mul-c c = search needs
 
 element-copy-out-c : tie.Need-element-copy-out-c
 element-copy-out-c c = taken (c .before) .there
@@ -84,9 +54,6 @@ transfer-requires c κs =
     let s = c .before .before .before in
     (search needs, taken s .ok)
 
-enum-known-source-2 : tie.Need-enum-known-source-2
-enum-known-source-2 c = search needs
-
 acknowledge-requires : tie.Need-acknowledge-requires
 acknowledge-requires c κs =
     let d = c .before .before in
@@ -94,24 +61,15 @@ acknowledge-requires c κs =
     let w = interrupt-winner _ _ _ _ (sym (d .before .before .winner-of .ensures) ∙ d .source2 .given .1) in
     (s .pre .0, s .pre .1, w .0, w .1)
 
-same-length-3 : tie.Need-same-length-3
-same-length-3 c = search needs
-
 returns-3 : tie.Need-returns-3
 unfolding granted
 returns-3 c = simp (gets (c .before .before), c .enum-told .given .1)
-
-same-length-4 : tie.Need-same-length-4
-same-length-4 c = search needs
 
 returns-4 : tie.Need-returns-4
 unfolding granted
 returns-4 c =
     let d = c .before .before .before .before .before .before in
     simp (gets (d .before .before), d .source .given .1, taken d .same, c .before .before .transfer .ensures)
-
-same-length-5 : tie.Need-same-length-5
-same-length-5 c = search needs
 
 returns-5 : tie.Need-returns-5
 unfolding granted
@@ -123,26 +81,26 @@ pub arbitrate-spec : {M : Type 1} → statement M
 arbitrate-spec =
     tie.close
     (tie.spec
-    in-service-requires
-    same-length
+    (λ c κs. search needs)
+    (λ c. search needs)
     returns
-    top-level-requires
-    enter-top-requires
-    same-length-2
+    (λ c κs. search needs)
+    (λ c κs. search needs)
+    (λ c. search needs)
     returns-2
-    winner-of-requires
-    enum-told
-    enum-known-source
-    cast-c
+    (λ c κs. search needs)
+    (λ c. search needs)
+    (λ c. search needs)
+    (λ c. search needs)
     sub-c
-    mul-c
+    (λ c. search needs)
     element-copy-out-c
     transfer-requires
-    enum-known-source-2
+    (λ c. search needs)
     acknowledge-requires
-    same-length-3
+    (λ c. search needs)
     returns-3
-    same-length-4
+    (λ c. search needs)
     returns-4
-    same-length-5
+    (λ c. search needs)
     returns-5)

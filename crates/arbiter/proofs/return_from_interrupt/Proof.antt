@@ -5,27 +5,9 @@ use Rattle.rules.specs.Return.{returned, returnOf}
 use Rattle.arbiter.proofs.return_from_interrupt.Statement.{statement}
 use Rattle.arbiter.proofs.return_from_interrupt.Tie as tie
 
-in-service-requires : tie.Need-in-service-requires
-in-service-requires c κs = search needs
-
-slice-write-image : tie.Need-slice-write-image
-slice-write-image c = search needs
-
-same-length : tie.Need-same-length
-same-length c = search needs
-
 returns : tie.Need-returns
 unfolding returnOf returned
 returns c = simp (sym (c .before .in-service .ensures) ∙ c .if1 .taken)
-
-unnest-requires : tie.Need-unnest-requires
-unnest-requires c κs = search needs
-
-put-at-requires : tie.Need-put-at-requires
-put-at-requires c κs = search needs
-
-same-length-2 : tie.Need-same-length-2
-same-length-2 c = search needs
 
 returns-2 : tie.Need-returns-2
 unfolding returnOf returned
@@ -38,11 +20,11 @@ pub return-from-interrupt-spec : {M : Type 1} → statement M
 return-from-interrupt-spec =
     tie.close
     (tie.spec
-    in-service-requires
-    slice-write-image
-    same-length
+    (λ c κs. search needs)
+    (λ c. search needs)
+    (λ c. search needs)
     returns
-    unnest-requires
-    put-at-requires
-    same-length-2
+    (λ c κs. search needs)
+    (λ c κs. search needs)
+    (λ c. search needs)
     returns-2)

@@ -4,24 +4,6 @@ use Rattle.rules.specs.Arbitration.{topLevel}
 use Rattle.arbiter.proofs.top_level.Statement.{statement}
 use Rattle.arbiter.proofs.top_level.Tie as tie
 
-shared-slice-read-cicr : tie.Need-shared-slice-read-cicr
-shared-slice-read-cicr c = search needs
-
-has-bit-requires : tie.Need-has-bit-requires
-has-bit-requires c κs = search needs
-
-shared-slice-read-has-bit : tie.Need-shared-slice-read-has-bit
-shared-slice-read-has-bit c = search needs
-
-has-bit-requires-2 : tie.Need-has-bit-requires-2
-has-bit-requires-2 c κs = search needs
-
-has-bit-requires-3 : tie.Need-has-bit-requires-3
-has-bit-requires-3 c κs = search needs
-
-has-bit-requires-4 : tie.Need-has-bit-requires-4
-has-bit-requires-4 c κs = search needs
-
 returns : tie.Need-returns
 unfolding topLevel
 returns c =
@@ -32,10 +14,10 @@ pub top-level-spec : {M : Type 1} → statement M
 top-level-spec =
     tie.close
     (tie.spec
-    shared-slice-read-cicr
-    has-bit-requires
-    shared-slice-read-has-bit
-    has-bit-requires-2
-    has-bit-requires-3
-    has-bit-requires-4
+    (λ c. search needs)
+    (λ c κs. search needs)
+    (λ c. search needs)
+    (λ c κs. search needs)
+    (λ c κs. search needs)
+    (λ c κs. search needs)
     returns)

@@ -4,12 +4,9 @@ use Rattle.bits.specs.Bits.{bit, digit}
 use Rattle.bits.proofs.has_bit.Statement.{statement}
 use Rattle.bits.proofs.has_bit.Tie as tie
 
-shr-result : tie.Need-shr-result
-shr-result c = search needs
-
 returns : tie.Need-returns
 unfolding bit digit
 returns c = search needs
 
 pub has-bit-spec : {M : Type 1} → statement M
-has-bit-spec = tie.close (tie.spec shr-result returns)
+has-bit-spec = tie.close (tie.spec (λ c. search needs) returns)

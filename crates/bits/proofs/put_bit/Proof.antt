@@ -8,19 +8,13 @@ use Rattle.bits.proofs.BitLaws.{shl-byte}
 use Rattle.bits.proofs.put_bit.Statement.{statement}
 use Rattle.bits.proofs.put_bit.Tie as tie
 
-shl-result : tie.Need-shl-result
-shl-result c = search needs
-
 returns : tie.Need-returns
 unfolding putBit
 returns c = rw (c .if1 .taken) (ap (bitOr (c .before .args .b)) (shl-byte (c .before .args .k) (c .before .pre)))
-
-shl-result-2 : tie.Need-shl-result-2
-shl-result-2 c = search needs
 
 returns-2 : tie.Need-returns-2
 unfolding putBit
 returns-2 c = rw (c .if1 .left) (ap (λ (x : ℕ). bitAnd (c .before .args .b) (255 - x)) (shl-byte (c .before .args .k) (c .before .pre)))
 
 pub put-bit-spec : {M : Type 1} → statement M
-put-bit-spec = tie.close (tie.spec shl-result returns shl-result-2 returns-2)
+put-bit-spec = tie.close (tie.spec (λ c. search needs) returns (λ c. search needs) returns-2)

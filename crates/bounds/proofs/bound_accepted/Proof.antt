@@ -4,18 +4,6 @@ use borrow.Author.Needs.{needs}
 use Rattle.bounds.proofs.bound_accepted.Statement.{statement}
 use Rattle.bounds.proofs.bound_accepted.Tie as tie
 
-start-premises-requires : tie.Need-start-premises-requires
-start-premises-requires c κs = search needs
-
-enum-told : tie.Need-enum-told
-enum-told c = search needs
-
-followed-requires : tie.Need-followed-requires
-followed-requires c κs = search needs
-
-enum-known-b : tie.Need-enum-known-b
-enum-known-b c = search needs
-
 returns : tie.Need-returns
 returns c = let d = c .before in c .followed .ensures ∙ sym (d .before .before .start-premises .ensures _ ∙ rw (d .enum-told .given .1))
 
@@ -23,4 +11,4 @@ returns-2 : tie.Need-returns-2
 returns-2 c = sym (c .before .before .before .start-premises .ensures _ ∙ rw (c .before .b .given .1))
 
 pub bound-accepted-spec : {M : Type 1} → statement M
-bound-accepted-spec = tie.close (tie.spec start-premises-requires enum-told followed-requires enum-known-b returns returns-2)
+bound-accepted-spec = tie.close (tie.spec (λ c κs. search needs) (λ c. search needs) (λ c κs. search needs) (λ c. search needs) returns returns-2)

@@ -13,9 +13,6 @@ returns c = rw (lt-ltb _ _ (c .if1 .taken))
 returns-2 : tie.Need-returns-2
 returns-2 c = rw (le-ltb _ _ (c .before .if1 .left), c .if2 .taken, and-false (isArbitration (c .before .before .args .step)))
 
-is-arbitration-requires : tie.Need-is-arbitration-requires
-is-arbitration-requires c κs = search needs
-
 returns-3 : tie.Need-returns-3
 returns-3 c =
     let d = c .before .before in
@@ -27,4 +24,4 @@ returns-4 c =
     rw (le-ltb _ _ (d .before .if1 .left), sym (c .before .is-arbitration .ensures) ∙ c .if3 .left)
 
 pub first-disabled-spec : {M : Type 1} → statement M
-first-disabled-spec = tie.close (tie.spec returns returns-2 is-arbitration-requires returns-3 returns-4)
+first-disabled-spec = tie.close (tie.spec returns returns-2 (λ c κs. search needs) returns-3 returns-4)

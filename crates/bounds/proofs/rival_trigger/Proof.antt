@@ -13,12 +13,6 @@ use Rattle.bounds.specs.Followed.{rivalTriggered}
 use Rattle.bounds.proofs.rival_trigger.Statement.{statement}
 use Rattle.bounds.proofs.rival_trigger.Tie as tie
 
-selected-in-requires : tie.Need-selected-in-requires
-selected-in-requires c κs = search needs
-
-target-of-requires : tie.Need-target-of-requires
-target-of-requires c κs = search needs
-
 add-if2 : tie.Need-add-if2
 add-if2 c =
     let s = c .before .before .before .before .before in
@@ -64,8 +58,8 @@ pub rival-trigger-spec : {M : Type 1} → statement M
 rival-trigger-spec =
     tie.close
     (tie.spec
-    selected-in-requires
-    target-of-requires
+    (λ c κs. search needs)
+    (λ c κs. search needs)
     add-if2
     is-rival-requires
     returns

@@ -18,25 +18,13 @@ waits c = sym (c .before .is-pending .ensures) ∙ not-false _ (c .if1 .left)
 is-open : (c : tie.Else2) → let a = c .before .before .before .before .before .args in unmasked (now (a .image)) (listOf (a .all)) (a .ours) ≡ true
 is-open c = sym (c .before .is-unmasked .ensures) ∙ not-false _ (c .if2 .left)
 
-is-pending-requires : tie.Need-is-pending-requires
-is-pending-requires c κs = search needs
-
 returns : tie.Need-returns
 unfolding sourceElse
 returns c b = rw (sym (c .before .is-pending .ensures) ∙ not-true _ (c .if1 .taken))
 
-is-unmasked-requires : tie.Need-is-unmasked-requires
-is-unmasked-requires c κs = search needs
-
 returns-2 : tie.Need-returns-2
 unfolding sourceElse
 returns-2 c b = rw (waits (c .before .before), sym (c .before .is-unmasked .ensures) ∙ not-true _ (c .if2 .taken))
-
-level-of-requires : tie.Need-level-of-requires
-level-of-requires c κs = search needs
-
-shared-slice-read-if3 : tie.Need-shared-slice-read-if3
-shared-slice-read-if3 c = search needs
 
 returns-3 : tie.Need-returns-3
 unfolding sourceElse
@@ -54,11 +42,11 @@ pub source-premises-spec : {M : Type 1} → statement M
 source-premises-spec =
     tie.close
     (tie.spec
-    is-pending-requires
+    (λ c κs. search needs)
     returns
-    is-unmasked-requires
+    (λ c κs. search needs)
     returns-2
-    level-of-requires
-    shared-slice-read-if3
+    (λ c κs. search needs)
+    (λ c. search needs)
     returns-3
     returns-4)

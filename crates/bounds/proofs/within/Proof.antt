@@ -15,9 +15,6 @@ few c =
     let s = c .before .before in
     omega (arith, c .pending-rivals .ensures, few-pending _ (s .good .1 .0) (s .pre .1) (now (s .args .image)) (rival (now (s .args .image)) (listOf (s .args .all)) (s .args .ours)))
 
-pending-rivals-requires : tie.Need-pending-rivals-requires
-pending-rivals-requires c κs = search needs
-
 add-t6 : tie.Need-add-t6
 add-t6 c = omega (arith, few c)
 
@@ -28,4 +25,4 @@ returns : tie.Need-returns
 returns c = rw (c .pending-rivals .ensures)
 
 pub within-spec : {M : Type 1} → statement M
-within-spec = tie.close (tie.spec pending-rivals-requires add-t6 add-t7 returns)
+within-spec = tie.close (tie.spec (λ c κs. search needs) add-t6 add-t7 returns)

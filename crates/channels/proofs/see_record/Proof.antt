@@ -4,9 +4,6 @@ use Rattle.channels.proofs.SeenLaws.{places-before, sees-record}
 use Rattle.channels.proofs.see_record.Statement.{statement}
 use Rattle.channels.proofs.see_record.Tie as tie
 
-places-of-requires : tie.Need-places-of-requires
-places-of-requires c κs = search needs
-
 see-requires : tie.Need-see-requires
 see-requires c κs =
     let p = c .before in
@@ -43,4 +40,4 @@ returns c =
 pub see-record-spec : {M : Type 1} → statement M
 see-record-spec =
     tie.close
-    (tie.spec places-of-requires see-requires see-requires-2 see-requires-3 see-requires-4 see-requires-5 returns)
+    (tie.spec (λ c κs. search needs) see-requires see-requires-2 see-requires-3 see-requires-4 see-requires-5 returns)

@@ -7,54 +7,12 @@ use Rattle.handlers.proofs.FollowLaws.{follows-file, follows-call}
 use Rattle.handlers.proofs.follow.Statement.{statement}
 use Rattle.handlers.proofs.follow.Tie as tie
 
-is-file-write-requires : tie.Need-is-file-write-requires
-is-file-write-requires c κs = search needs
-
-act-requires : tie.Need-act-requires
-act-requires c κs = search needs
-
-same-length : tie.Need-same-length
-same-length c = search needs
-
 returns : tie.Need-returns
 returns c =
     let d = c .before .before in
     let t = d .before .before in
     let s = t .before .before .before .before in
     follows-file _ _ _ _ _ _ _ _ (d .act .ensures) (s .pre .1) (s .pre .2) (s .pre .3) (sym (t .before .is-file-write .ensures) ∙ t .if1 .taken)
-
-is-write-requires : tie.Need-is-write-requires
-is-write-requires c κs = search needs
-
-follow-write-requires : tie.Need-follow-write-requires
-follow-write-requires c κs = search needs
-
-same-length-2 : tie.Need-same-length-2
-same-length-2 c = search needs
-
-returns-2 : tie.Need-returns-2
-returns-2 c = search needs
-
-is-arbitration-requires : tie.Need-is-arbitration-requires
-is-arbitration-requires c κs = search needs
-
-slice-read-has-bit : tie.Need-slice-read-has-bit
-slice-read-has-bit c = search needs
-
-has-bit-requires : tie.Need-has-bit-requires
-has-bit-requires c κs = search needs
-
-act-requires-2 : tie.Need-act-requires-2
-act-requires-2 c κs = search needs
-
-broken-call-requires : tie.Need-broken-call-requires
-broken-call-requires c κs = search needs
-
-rival-trigger-requires : tie.Need-rival-trigger-requires
-rival-trigger-requires c κs = search needs
-
-same-length-3 : tie.Need-same-length-3
-same-length-3 c = search needs
 
 returns-3 : tie.Need-returns-3
 returns-3 c =
@@ -68,19 +26,19 @@ pub follow-spec : {M : Type 1} → statement M
 follow-spec =
     tie.close
     (tie.spec
-    is-file-write-requires
-    act-requires
-    same-length
+    (λ c κs. search needs)
+    (λ c κs. search needs)
+    (λ c. search needs)
     returns
-    is-write-requires
-    follow-write-requires
-    same-length-2
-    returns-2
-    is-arbitration-requires
-    slice-read-has-bit
-    has-bit-requires
-    act-requires-2
-    broken-call-requires
-    rival-trigger-requires
-    same-length-3
+    (λ c κs. search needs)
+    (λ c κs. search needs)
+    (λ c. search needs)
+    (λ c. search needs)
+    (λ c κs. search needs)
+    (λ c. search needs)
+    (λ c κs. search needs)
+    (λ c κs. search needs)
+    (λ c κs. search needs)
+    (λ c κs. search needs)
+    (λ c. search needs)
     returns-3)

@@ -6,37 +6,10 @@ use Rattle.handlers.proofs.FollowLaws.{follows-write, follows-refused}
 use Rattle.handlers.proofs.follow_write.Statement.{statement}
 use Rattle.handlers.proofs.follow_write.Tie as tie
 
-copy-of-requires : tie.Need-copy-of-requires
-copy-of-requires c κs = search needs
-
-act-requires : tie.Need-act-requires
-act-requires c κs = search needs
-
-verdict-of-requires : tie.Need-verdict-of-requires
-verdict-of-requires c κs = search needs
-
-enum-told : tie.Need-enum-told
-enum-told c = search needs
-
-slice-aggregate-first-changed : tie.Need-slice-aggregate-first-changed
-slice-aggregate-first-changed c = search needs
-
-first-changed-requires : tie.Need-first-changed-requires
-first-changed-requires c κs = search needs
-
-slice-aggregate-raised-rivals : tie.Need-slice-aggregate-raised-rivals
-slice-aggregate-raised-rivals c = search needs
-
 raised-rivals-requires : tie.Need-raised-rivals-requires
 raised-rivals-requires c κs =
     let s = c .before .before .before .before .before .before .before .before .before .before .before .before .before .before .before .before in
     (s .pre .0, search needs, search needs, s .pre .2, s .pre .3)
-
-enum-told-2 : tie.Need-enum-told-2
-enum-told-2 c = search needs
-
-same-length : tie.Need-same-length
-same-length c = search needs
 
 returns : tie.Need-returns
 returns c =
@@ -45,9 +18,6 @@ returns c =
     let s = d .before .before .before .before .before .before in
     follows-write _ _ _ _ _ _ _ _ (d .act .ensures) (s .pre .4) (ap refuses (sym (v .verdict-of .ensures) ∙ c .before .before .before .before .before .before .enum-told .given .1)) _ _
     (rw (← d .before .before .copy-of .ensures) (c .before .before .before .first-changed .ensures)) (rw (← d .before .before .copy-of .ensures) (c .raised-rivals .ensures))
-
-same-length-2 : tie.Need-same-length-2
-same-length-2 c = search needs
 
 returns-2 : tie.Need-returns-2
 returns-2 c =
@@ -59,16 +29,16 @@ pub follow-write-spec : {M : Type 1} → statement M
 follow-write-spec =
     tie.close
     (tie.spec
-    copy-of-requires
-    act-requires
-    verdict-of-requires
-    enum-told
-    slice-aggregate-first-changed
-    first-changed-requires
-    slice-aggregate-raised-rivals
+    (λ c κs. search needs)
+    (λ c κs. search needs)
+    (λ c κs. search needs)
+    (λ c. search needs)
+    (λ c. search needs)
+    (λ c κs. search needs)
+    (λ c. search needs)
     raised-rivals-requires
-    enum-told-2
-    same-length
+    (λ c. search needs)
+    (λ c. search needs)
     returns
-    same-length-2
+    (λ c. search needs)
     returns-2)

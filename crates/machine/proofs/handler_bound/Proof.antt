@@ -7,20 +7,11 @@ use Rattle.machine.proofs.LentLaws.{handler-bounds-by}
 use Rattle.machine.proofs.handler_bound.Statement.{statement}
 use Rattle.machine.proofs.handler_bound.Tie as tie
 
-wait-verdict-requires : tie.Need-wait-verdict-requires
-wait-verdict-requires c κs = search needs
-
-enum-told : tie.Need-enum-told
-enum-told c = search needs
-
 handler-bound-accepted-requires : tie.Need-handler-bound-accepted-requires
 handler-bound-accepted-requires c κs =
     let v = sym (c .before .before .wait-verdict .ensures) ∙ c .enum-told .given .1 in
     let l = lent-sound _ _ (accepted-lent _ _ _ v) in
     (l .0, l .1, accepted-source _ _ _ v)
-
-enum-known-r : tie.Need-enum-known-r
-enum-known-r c = search needs
 
 returns : tie.Need-returns
 returns c =
@@ -31,4 +22,4 @@ returns-2 : tie.Need-returns-2
 returns-2 c = handler-bounds-by _ _ _ _ _ _ (sym (c .before .before .before .wait-verdict .ensures) ∙ c .before .r .given .1) refl
 
 pub handler-bound-spec : {M : Type 1} → statement M
-handler-bound-spec = tie.close (tie.spec wait-verdict-requires enum-told handler-bound-accepted-requires enum-known-r returns returns-2)
+handler-bound-spec = tie.close (tie.spec (λ c κs. search needs) (λ c. search needs) handler-bound-accepted-requires (λ c. search needs) returns returns-2)

@@ -10,9 +10,6 @@ use Rattle.machine.proofs.lent_verdict.Tie as tie
 returns : tie.Need-returns
 returns c = sym (lent-length (state (now (c .before .before .args .image))) _ (c .if1 .taken))
 
-list-ok-requires : tie.Need-list-ok-requires
-list-ok-requires c κs = search needs
-
 returns-2 : tie.Need-returns-2
 returns-2 c =
     let d = c .before .before in
@@ -24,4 +21,4 @@ returns-3 c =
     sym (lent-list (state (now (d .before .before .args .image))) _ (d .if1 .left) (sym (c .before .list-ok .ensures) ∙ c .if2 .left))
 
 pub lent-verdict-spec : {M : Type 1} → statement M
-lent-verdict-spec = tie.close (tie.spec returns list-ok-requires returns-2 returns-3)
+lent-verdict-spec = tie.close (tie.spec returns (λ c κs. search needs) returns-2 returns-3)

@@ -6,30 +6,15 @@ use Rattle.machine.proofs.LentLaws.{does-by}
 use Rattle.machine.proofs.one_step.Statement.{statement}
 use Rattle.machine.proofs.one_step.Tie as tie
 
-lent-verdict-requires : tie.Need-lent-verdict-requires
-lent-verdict-requires c κs = search needs
-
-enum-told : tie.Need-enum-told
-enum-told c = search needs
-
 act-requires : tie.Need-act-requires
 act-requires c κs =
     let d = c .before .before .before in
     lent-sound _ _ (sym (d .lent-verdict .ensures) ∙ c .before .enum-told .given .1)
 
-enum-known-r : tie.Need-enum-known-r
-enum-known-r c = search needs
-
-same-length : tie.Need-same-length
-same-length c = search needs
-
 returns : tie.Need-returns
 returns c =
     let d = c .before .before .before .before in
     does-by _ _ _ _ _ _ (sym (d .before .before .lent-verdict .ensures) ∙ d .enum-told .given .1) (c .before .before .act .ensures)
-
-same-length-2 : tie.Need-same-length-2
-same-length-2 c = search needs
 
 returns-2 : tie.Need-returns-2
 returns-2 c = does-by _ _ _ _ _ _ (sym (c .before .before .before .lent-verdict .ensures) ∙ c .before .r .given .1) refl
@@ -38,11 +23,11 @@ pub one-step-spec : {M : Type 1} → statement M
 one-step-spec =
     tie.close
     (tie.spec
-    lent-verdict-requires
-    enum-told
+    (λ c κs. search needs)
+    (λ c. search needs)
     act-requires
-    enum-known-r
-    same-length
+    (λ c. search needs)
+    (λ c. search needs)
     returns
-    same-length-2
+    (λ c. search needs)
     returns-2)

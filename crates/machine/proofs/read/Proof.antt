@@ -11,19 +11,10 @@ use Rattle.machine.proofs.LentLaws.{does-by}
 use Rattle.machine.proofs.read.Statement.{statement}
 use Rattle.machine.proofs.read.Tie as tie
 
-lent-verdict-requires : tie.Need-lent-verdict-requires
-lent-verdict-requires c κs = search needs
-
-enum-told : tie.Need-enum-told
-enum-told c = search needs
-
 read-requires : tie.Need-read-requires
 read-requires c κs =
     let d = c .before .before in
     lent-sound _ _ (sym (d .lent-verdict .ensures) ∙ c .enum-told .given .1)
-
-enum-known-r : tie.Need-enum-known-r
-enum-known-r c = search needs
 
 returns : tie.Need-returns
 unfolding actOf
@@ -39,4 +30,4 @@ returns-2 c = does-by _ _ _ _ _ _ (sym (c .before .before .before .lent-verdict 
 pub read-spec : {M : Type 1} → statement M
 read-spec =
     tie.close
-    (tie.spec lent-verdict-requires enum-told read-requires enum-known-r returns returns-2)
+    (tie.spec (λ c κs. search needs) (λ c. search needs) read-requires (λ c. search needs) returns returns-2)

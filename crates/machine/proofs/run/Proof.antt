@@ -6,30 +6,15 @@ use Rattle.machine.proofs.LentLaws.{runs-by}
 use Rattle.machine.proofs.run.Statement.{statement}
 use Rattle.machine.proofs.run.Tie as tie
 
-lent-verdict-requires : tie.Need-lent-verdict-requires
-lent-verdict-requires c κs = search needs
-
-enum-told : tie.Need-enum-told
-enum-told c = search needs
-
 run-accepted-requires : tie.Need-run-accepted-requires
 run-accepted-requires c κs =
     let d = c .before .before .before in
     lent-sound _ _ (sym (d .lent-verdict .ensures) ∙ c .before .enum-told .given .1)
 
-enum-known-r : tie.Need-enum-known-r
-enum-known-r c = search needs
-
-same-length : tie.Need-same-length
-same-length c = search needs
-
 returns : tie.Need-returns
 returns c =
     let d = c .before .before .before .before in
     runs-by _ _ _ _ _ _ (sym (d .before .before .lent-verdict .ensures) ∙ d .enum-told .given .1) (c .before .before .run-accepted .ensures)
-
-same-length-2 : tie.Need-same-length-2
-same-length-2 c = search needs
 
 returns-2 : tie.Need-returns-2
 returns-2 c = runs-by _ _ _ _ _ _ (sym (c .before .before .before .lent-verdict .ensures) ∙ c .before .r .given .1) refl
@@ -38,11 +23,11 @@ pub run-spec : {M : Type 1} → statement M
 run-spec =
     tie.close
     (tie.spec
-    lent-verdict-requires
-    enum-told
+    (λ c κs. search needs)
+    (λ c. search needs)
     run-accepted-requires
-    enum-known-r
-    same-length
+    (λ c. search needs)
+    (λ c. search needs)
     returns
-    same-length-2
+    (λ c. search needs)
     returns-2)

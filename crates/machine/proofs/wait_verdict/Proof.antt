@@ -27,12 +27,6 @@ counts s all good v =
     let ok = lent-sound s (listOf all) v .1 in
     (count-short all good ok, omega (arith, list-count all good ok))
 
-lent-verdict-requires : tie.Need-lent-verdict-requires
-lent-verdict-requires c κs = search needs
-
-enum-told : tie.Need-enum-told
-enum-told c = search needs
-
 add-if1 : tie.Need-add-if1
 add-if1 c =
     let d = c .before .before .before in
@@ -43,9 +37,6 @@ returns c =
     let d = c .before .before .before .before in
     let v = sym (d .lent-verdict .ensures) ∙ c .before .before .enum-told .given .1 in
     sym (wait-accepted _ _ _ v (omega (arith, counts _ _ (d .before .before .good .1 .0) v .1)))
-
-enum-known-r : tie.Need-enum-known-r
-enum-known-r c = search needs
 
 returns-2 : tie.Need-returns-2
 returns-2 c =
@@ -59,4 +50,4 @@ returns-3 c = sym (lent-first _ _ _ _ (sym (c .before .before .before .lent-verd
 pub wait-verdict-spec : {M : Type 1} → statement M
 wait-verdict-spec =
     tie.close
-    (tie.spec lent-verdict-requires enum-told add-if1 returns enum-known-r returns-2 returns-3)
+    (tie.spec (λ c κs. search needs) (λ c. search needs) add-if1 returns (λ c. search needs) returns-2 returns-3)

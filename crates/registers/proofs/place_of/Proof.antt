@@ -6,9 +6,6 @@ use Rattle.channels.proofs.ItemLaws.{count-short}
 use Rattle.registers.proofs.place_of.Statement.{statement}
 use Rattle.registers.proofs.place_of.Tie as tie
 
-existing-bits-requires : tie.Need-existing-bits-requires
-existing-bits-requires c κs = search needs
-
 returns : tie.Need-returns
 unfolding placeOf
 returns c = simp (lt-ltb _ _ (c .before .if1 .taken), c .existing-bits .ensures)
@@ -16,15 +13,6 @@ returns c = simp (lt-ltb _ _ (c .before .if1 .taken), c .existing-bits .ensures)
 returns-2 : tie.Need-returns-2
 unfolding placeOf
 returns-2 c = simp (le-ltb _ _ (c .before .if1 .left), lt-leb _ _ (c .if2 .taken))
-
-cast-r : tie.Need-cast-r
-cast-r c = search needs
-
-shared-slice-read-page : tie.Need-shared-slice-read-page
-shared-slice-read-page c = search needs
-
-page-zero-requires : tie.Need-page-zero-requires
-page-zero-requires c κs = search needs
 
 returns-3 : tie.Need-returns-3
 unfolding placeOf
@@ -48,12 +36,12 @@ pub place-of-spec : {M : Type 1} → statement M
 place-of-spec =
     tie.close
     (tie.spec
-    existing-bits-requires
+    (λ c κs. search needs)
     returns
     returns-2
-    cast-r
-    shared-slice-read-page
-    page-zero-requires
+    (λ c. search needs)
+    (λ c. search needs)
+    (λ c κs. search needs)
     returns-3
     records-place-requires
     returns-4)

@@ -9,15 +9,9 @@ returns : tie.Need-returns
 unfolding recordPlace
 returns c = simp (ne-eqb _ _ (c .if1 .taken))
 
-page-byte-requires : tie.Need-page-byte-requires
-page-byte-requires c κs = search needs
-
 returns-2 : tie.Need-returns-2
 unfolding recordPlace
 returns-2 c = simp (eq-eqb _ _ (c .before .before .before .if1 .left), eq-eqb _ _ (c .before .if2 .taken), c .page-byte .ensures)
-
-page-byte-requires-2 : tie.Need-page-byte-requires-2
-page-byte-requires-2 c κs = search needs
 
 returns-3 : tie.Need-returns-3
 unfolding recordPlace
@@ -34,4 +28,4 @@ returns-4 c =
 pub record-place-spec : {M : Type 1} → statement M
 record-place-spec =
     tie.close
-    (tie.spec returns page-byte-requires returns-2 page-byte-requires-2 returns-3 returns-4)
+    (tie.spec returns (λ c κs. search needs) returns-2 (λ c κs. search needs) returns-3 returns-4)

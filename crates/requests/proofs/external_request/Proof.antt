@@ -5,24 +5,6 @@ use borrow.Author.Needs.{needs}
 use Rattle.requests.proofs.external_request.Statement.{statement}
 use Rattle.requests.proofs.external_request.Tie as tie
 
-shared-slice-read-has-bit : tie.Need-shared-slice-read-has-bit
-shared-slice-read-has-bit c = search needs
-
-has-bit-requires : tie.Need-has-bit-requires
-has-bit-requires c κs = search needs
-
-shared-slice-read-has-bit-2 : tie.Need-shared-slice-read-has-bit-2
-shared-slice-read-has-bit-2 c = search needs
-
-has-bit-requires-2 : tie.Need-has-bit-requires-2
-has-bit-requires-2 c κs = search needs
-
-shared-slice-read-external-level : tie.Need-shared-slice-read-external-level
-shared-slice-read-external-level c = search needs
-
-external-level-requires : tie.Need-external-level-requires
-external-level-requires c κs = search needs
-
 returns : tie.Need-returns
 returns c = λ cs.
     let d = c .before .before .before in
@@ -45,12 +27,12 @@ pub external-request-spec : {M : Type 1} → statement M
 external-request-spec =
     tie.close
     (tie.spec
-    shared-slice-read-has-bit
-    has-bit-requires
-    shared-slice-read-has-bit-2
-    has-bit-requires-2
-    shared-slice-read-external-level
-    external-level-requires
+    (λ c. search needs)
+    (λ c κs. search needs)
+    (λ c. search needs)
+    (λ c κs. search needs)
+    (λ c. search needs)
+    (λ c κs. search needs)
     returns
     returns-2
     returns-3)

@@ -9,36 +9,12 @@ use Rattle.requests.specs.Ranks.{rankOf}
 use Rattle.requests.proofs.rank_of.Statement.{statement}
 use Rattle.requests.proofs.rank_of.Tie as tie
 
-shared-slice-read-cicr : tie.Need-shared-slice-read-cicr
-shared-slice-read-cicr c = search needs
-
-enum-told : tie.Need-enum-told
-enum-told c = search needs
-
-enum-known-request : tie.Need-enum-known-request
-enum-known-request c = search needs
-
-mul-result : tie.Need-mul-result
-mul-result c = search needs
-
 returns : tie.Need-returns
 unfolding rankOf eligible
 returns c =
     let r = c .before .before .request in
     let m = c .before .before .before .before .before .before .args .image .now in
     simp (r .given .1, lt-ltb (r .given .0 .0) (CPL m) (omega (arith, c .if1 .taken)))
-
-enum-known-request-2 : tie.Need-enum-known-request-2
-enum-known-request-2 c = search needs
-
-has-bit-requires : tie.Need-has-bit-requires
-has-bit-requires c κs = search needs
-
-mul-result-2 : tie.Need-mul-result-2
-mul-result-2 c = search needs
-
-add-result : tie.Need-add-result
-add-result c = search needs
 
 returns-2 : tie.Need-returns-2
 unfolding rankOf eligible
@@ -75,15 +51,15 @@ pub rank-of-spec : {M : Type 1} → statement M
 rank-of-spec =
     tie.close
     (tie.spec
-    shared-slice-read-cicr
-    enum-told
-    enum-known-request
-    mul-result
+    (λ c. search needs)
+    (λ c. search needs)
+    (λ c. search needs)
+    (λ c. search needs)
     returns
-    enum-known-request-2
-    has-bit-requires
-    mul-result-2
-    add-result
+    (λ c. search needs)
+    (λ c κs. search needs)
+    (λ c. search needs)
+    (λ c. search needs)
     returns-2
     returns-3
     returns-4

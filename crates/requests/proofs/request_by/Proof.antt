@@ -5,20 +5,11 @@ use borrow.Author.Needs.{needs}
 use Rattle.requests.proofs.request_by.Statement.{statement}
 use Rattle.requests.proofs.request_by.Tie as tie
 
-has-bit-requires : tie.Need-has-bit-requires
-has-bit-requires c κs = search needs
-
-has-bit-requires-2 : tie.Need-has-bit-requires-2
-has-bit-requires-2 c κs = search needs
-
 returns : tie.Need-returns
 unfolding recordRequest
 returns c =
     let s = c .before .before in
     simp (sym (s .before .has-bit .ensures) ∙ s .if1 .taken, sym (c .before .has-bit2 .ensures) ∙ c .if2 .taken)
-
-has-bit-requires-3 : tie.Need-has-bit-requires-3
-has-bit-requires-3 c κs = search needs
 
 returns-2 : tie.Need-returns-2
 unfolding recordRequest
@@ -42,10 +33,10 @@ pub request-by-spec : {M : Type 1} → statement M
 request-by-spec =
     tie.close
     (tie.spec
-    has-bit-requires
-    has-bit-requires-2
+    (λ c κs. search needs)
+    (λ c κs. search needs)
     returns
-    has-bit-requires-3
+    (λ c κs. search needs)
     returns-2
     returns-3
     returns-4)

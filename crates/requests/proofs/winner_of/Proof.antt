@@ -13,9 +13,6 @@ use Rattle.requests.proofs.RankLaws.{scanned-winner, scanned-nobody}
 use Rattle.requests.proofs.winner_of.Statement.{statement}
 use Rattle.requests.proofs.winner_of.Tie as tie
 
-gather-requires : tie.Need-gather-requires
-gather-requires c κs = search needs
-
 -- the gathered ranks are those of every source
 ranked : (c : tie.After-gather)
     → RanksBelow (now (c .before .before .args .image)) (listOf (c .before .before .args .all)) (sources (listOf (c .before .before .args .all))) (c .gather .result .ranks) (c .gather .result .least)
@@ -54,4 +51,4 @@ returns-2 c =
     c .scan .ensures ∙ ap (scanned _) e ∙ scanned-winner _ (listOf all) _ _ (ranked g)
 
 pub winner-of-spec : {M : Type 1} → statement M
-winner-of-spec = tie.close (tie.spec gather-requires returns add-scan scan-requires returns-2)
+winner-of-spec = tie.close (tie.spec (λ c κs. search needs) returns add-scan scan-requires returns-2)

@@ -15,11 +15,8 @@ idcr-of-requires c κs =
     let s = c .before .before in
     (s .pre .0, s .pre .1, omega (arith, source-count _ (s .good .1 .0) (s .pre .1)))
 
-has-bit-requires : tie.Need-has-bit-requires
-has-bit-requires c κs = search needs
-
 returns-2 : tie.Need-returns-2
 returns-2 c = c .has-bit .ensures ∙ ap (bit 4) (c .before .idcr-of .ensures) ∙ sym (record-reads _ _ _ (c .before .before .if1 .left) .enables)
 
 pub is-dma-enabled-spec : {M : Type 1} → statement M
-is-dma-enabled-spec = tie.close (tie.spec returns idcr-of-requires has-bit-requires returns-2)
+is-dma-enabled-spec = tie.close (tie.spec returns idcr-of-requires (λ c κs. search needs) returns-2)

@@ -5,11 +5,8 @@ use Rattle.sources.proofs.SourceReads.{pending-bit}
 use Rattle.sources.proofs.is_pending.Statement.{statement}
 use Rattle.sources.proofs.is_pending.Tie as tie
 
-source-bit-requires : tie.Need-source-bit-requires
-source-bit-requires c κs = search needs
-
 returns : tie.Need-returns
 returns c = c .source-bit .ensures ∙ sym (pending-bit _ _ _)
 
 pub is-pending-spec : {M : Type 1} → statement M
-is-pending-spec = tie.close (tie.spec source-bit-requires returns)
+is-pending-spec = tie.close (tie.spec (λ c κs. search needs) returns)

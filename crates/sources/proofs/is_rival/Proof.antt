@@ -4,15 +4,9 @@ use Rattle.rules.specs.Waiting.{rival}
 use Rattle.sources.proofs.is_rival.Statement.{statement}
 use Rattle.sources.proofs.is_rival.Tie as tie
 
-is-unmasked-requires : tie.Need-is-unmasked-requires
-is-unmasked-requires c κs = search needs
-
-is-outranking-requires : tie.Need-is-outranking-requires
-is-outranking-requires c κs = search needs
-
 returns : tie.Need-returns
 unfolding rival
 returns c = rw (c .before .is-unmasked .ensures, c .is-outranking .ensures)
 
 pub is-rival-spec : {M : Type 1} → statement M
-is-rival-spec = tie.close (tie.spec is-unmasked-requires is-outranking-requires returns)
+is-rival-spec = tie.close (tie.spec (λ c κs. search needs) (λ c κs. search needs) returns)

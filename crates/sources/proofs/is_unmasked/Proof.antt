@@ -5,11 +5,8 @@ use Rattle.sources.proofs.SourceReads.{unmasked-bit}
 use Rattle.sources.proofs.is_unmasked.Statement.{statement}
 use Rattle.sources.proofs.is_unmasked.Tie as tie
 
-source-bit-requires : tie.Need-source-bit-requires
-source-bit-requires c κs = search needs
-
 returns : tie.Need-returns
 returns c = c .source-bit .ensures ∙ sym (unmasked-bit _ _ _)
 
 pub is-unmasked-spec : {M : Type 1} → statement M
-is-unmasked-spec = tie.close (tie.spec source-bit-requires returns)
+is-unmasked-spec = tie.close (tie.spec (λ c κs. search needs) returns)

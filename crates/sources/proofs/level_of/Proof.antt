@@ -7,15 +7,6 @@ use Rattle.sources.proofs.SourceReads.{source-count, external-reads, re
 use Rattle.sources.proofs.level_of.Statement.{statement}
 use Rattle.sources.proofs.level_of.Tie as tie
 
-shared-slice-read-external-level : tie.Need-shared-slice-read-external-level
-shared-slice-read-external-level c = search needs
-
-cast-external-level : tie.Need-cast-external-level
-cast-external-level c = search needs
-
-external-level-requires : tie.Need-external-level-requires
-external-level-requires c κs = search needs
-
 returns : tie.Need-returns
 returns c = c .external-level .ensures ∙ sym (external-reads _ _ _ (c .before .before .if1 .taken) .levels)
 
@@ -31,9 +22,9 @@ pub level-of-spec : {M : Type 1} → statement M
 level-of-spec =
     tie.close
     (tie.spec
-    shared-slice-read-external-level
-    cast-external-level
-    external-level-requires
+    (λ c. search needs)
+    (λ c. search needs)
+    (λ c κs. search needs)
     returns
     idcr-of-requires
     returns-2)

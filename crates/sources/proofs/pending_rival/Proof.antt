@@ -4,12 +4,6 @@ use borrow.Author.Needs.{needs}
 use Rattle.sources.proofs.pending_rival.Statement.{statement}
 use Rattle.sources.proofs.pending_rival.Tie as tie
 
-is-pending-requires : tie.Need-is-pending-requires
-is-pending-requires c κs = search needs
-
-is-rival-requires : tie.Need-is-rival-requires
-is-rival-requires c κs = search needs
-
 returns : tie.Need-returns
 returns c = rw (sym (c .before .before .before .is-pending .ensures) ∙ c .before .before .if1 .taken, sym (c .before .is-rival .ensures) ∙ c .if2 .taken)
 
@@ -21,4 +15,4 @@ returns-3 c = rw (sym (c .before .is-pending .ensures) ∙ c .if1 .left)
 
 pub pending-rival-spec : {M : Type 1} → statement M
 pending-rival-spec =
-    tie.close (tie.spec is-pending-requires is-rival-requires returns returns-2 returns-3)
+    tie.close (tie.spec (λ c κs. search needs) (λ c κs. search needs) returns returns-2 returns-3)

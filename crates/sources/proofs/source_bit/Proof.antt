@@ -8,15 +8,6 @@ use Rattle.sources.proofs.SourceReads.{source-count}
 use Rattle.sources.proofs.source_bit.Statement.{statement}
 use Rattle.sources.proofs.source_bit.Tie as tie
 
-shared-slice-read-has-bit : tie.Need-shared-slice-read-has-bit
-shared-slice-read-has-bit c = search needs
-
-cast-has-bit : tie.Need-cast-has-bit
-cast-has-bit c = search needs
-
-has-bit-requires : tie.Need-has-bit-requires
-has-bit-requires c κs = search needs
-
 returns : tie.Need-returns
 returns c = rw (lt-ltb _ _ (c .before .before .if1 .taken)) (c .has-bit .ensures)
 
@@ -25,9 +16,6 @@ idcr-of-requires c κs =
     let s = c .before .before in
     (s .pre .0, s .pre .1, omega (arith, source-count _ (s .good .1 .0) (s .pre .1)))
 
-has-bit-requires-2 : tie.Need-has-bit-requires-2
-has-bit-requires-2 c κs = search needs
-
 returns-2 : tie.Need-returns-2
 returns-2 c = rw (le-ltb _ _ (c .before .before .if1 .left)) (c .has-bit2 .ensures ∙ ap (bit _) (c .before .idcr-of .ensures))
 
@@ -35,10 +23,10 @@ pub source-bit-spec : {M : Type 1} → statement M
 source-bit-spec =
     tie.close
     (tie.spec
-    shared-slice-read-has-bit
-    cast-has-bit
-    has-bit-requires
+    (λ c. search needs)
+    (λ c. search needs)
+    (λ c κs. search needs)
     returns
     idcr-of-requires
-    has-bit-requires-2
+    (λ c κs. search needs)
     returns-2)

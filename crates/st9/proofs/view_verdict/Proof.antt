@@ -5,11 +5,8 @@ use Rattle.rules.specs.Answers.{toldVerdict}
 use Rattle.st9.proofs.view_verdict.Statement.{statement}
 use Rattle.st9.proofs.view_verdict.Tie as tie
 
-view-verdict-requires : tie.Need-view-verdict-requires
-view-verdict-requires c κs = search needs
-
 returns : tie.Need-returns
 returns c = ap toldVerdict (c .view-verdict .ensures)
 
 pub view-verdict-spec : {M : Type 1} → statement M
-view-verdict-spec = tie.close (tie.spec view-verdict-requires returns)
+view-verdict-spec = tie.close (tie.spec (λ c κs. search needs) returns)

@@ -4,21 +4,6 @@ use Rattle.rules.specs.Arbitration.{acknowledged, granted}
 use Rattle.arbiter.proofs.acknowledgement.acknowledge.Statement.{statement}
 use Rattle.arbiter.proofs.acknowledgement.acknowledge.Tie as tie
 
-vector-of-requires : tie.Need-vector-of-requires
-vector-of-requires c κs = search needs
-
-nest-requires : tie.Need-nest-requires
-nest-requires c κs = search needs
-
-clear-pending-requires : tie.Need-clear-pending-requires
-clear-pending-requires c κs = search needs
-
-put-at-requires : tie.Need-put-at-requires
-put-at-requires c κs = search needs
-
-same-length : tie.Need-same-length
-same-length c = search needs
-
 returns : tie.Need-returns
 unfolding granted acknowledged
 returns c =
@@ -30,9 +15,9 @@ pub acknowledge-spec : {M : Type 1} → statement M
 acknowledge-spec =
     tie.close
     (tie.spec
-    vector-of-requires
-    nest-requires
-    clear-pending-requires
-    put-at-requires
-    same-length
+    (λ c κs. search needs)
+    (λ c κs. search needs)
+    (λ c κs. search needs)
+    (λ c κs. search needs)
+    (λ c. search needs)
     returns)

@@ -9,20 +9,11 @@ use Rattle.arbiter.proofs.SourceLaws.{source-taken}
 use Rattle.arbiter.proofs.acknowledgement.clear_pending.Statement.{statement}
 use Rattle.arbiter.proofs.acknowledgement.clear_pending.Tie as tie
 
-put-at-requires : tie.Need-put-at-requires
-put-at-requires c κs = search needs
-
-same-length : tie.Need-same-length
-same-length c = search needs
-
 returns : tie.Need-returns
 unfolding cleared pendingBit
 returns c =
     let d = c .before .before .before .before in
     simp (lt-ltb (d .before .before .args .source) 8 (omega (arith, d .if1 .taken)), c .before .before .put-at .ensures)
-
-mul-c : tie.Need-mul-c
-mul-c c = search needs
 
 element-copy-out-c : tie.Need-element-copy-out-c
 element-copy-out-c c =
@@ -43,9 +34,6 @@ put-at-requires-2 c κs =
     let t = source-taken _ _ (s .good .1 .0) (s .pre .1) (s .pre .2) (d .if1 .left) in
     (omega (arith, s .pre .0, t .place 0 (omega arith) _ (c .page-byte .ensures) .1), omega arith)
 
-same-length-2 : tie.Need-same-length-2
-same-length-2 c = search needs
-
 returns-2 : tie.Need-returns-2
 unfolding cleared pendingBit idcrByte
 returns-2 c =
@@ -59,12 +47,12 @@ pub clear-pending-spec : {M : Type 1} → statement M
 clear-pending-spec =
     tie.close
     (tie.spec
-    put-at-requires
-    same-length
+    (λ c κs. search needs)
+    (λ c. search needs)
     returns
-    mul-c
+    (λ c. search needs)
     element-copy-out-c
     page-byte-requires
     put-at-requires-2
-    same-length-2
+    (λ c. search needs)
     returns-2)

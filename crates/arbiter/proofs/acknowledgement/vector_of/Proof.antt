@@ -9,14 +9,8 @@ use Rattle.arbiter.proofs.SourceLaws.{source-taken}
 use Rattle.arbiter.proofs.acknowledgement.vector_of.Statement.{statement}
 use Rattle.arbiter.proofs.acknowledgement.vector_of.Tie as tie
 
-shared-slice-read-result : tie.Need-shared-slice-read-result
-shared-slice-read-result c = search needs
-
 mul-result : tie.Need-mul-result
 mul-result c = omega (arith, c .shared-slice-known2 .given EIVR)
-
-mul-result-2 : tie.Need-mul-result-2
-mul-result-2 c = search needs
 
 add-result : tie.Need-add-result
 add-result c = omega (arith, c .shared-slice-known2 .given EIVR, c .before .if1 .taken)
@@ -26,9 +20,6 @@ unfolding vectorOf
 returns c =
     let d = c .before in
     simp (lt-ltb (d .before .before .args .source) 8 (omega (arith, d .if1 .taken)))
-
-mul-c : tie.Need-mul-c
-mul-c c = search needs
 
 element-copy-out-c : tie.Need-element-copy-out-c
 element-copy-out-c c =
@@ -63,12 +54,12 @@ pub vector-of-spec : {M : Type 1} → statement M
 vector-of-spec =
     tie.close
     (tie.spec
-    shared-slice-read-result
+    (λ c. search needs)
     mul-result
-    mul-result-2
+    (λ c. search needs)
     add-result
     returns
-    mul-c
+    (λ c. search needs)
     element-copy-out-c
     page-byte-requires
     shared-slice-read-result-2

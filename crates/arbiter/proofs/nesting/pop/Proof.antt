@@ -7,12 +7,6 @@ use Rattle.rules.specs.Return.{popped}
 use Rattle.arbiter.proofs.nesting.pop.Statement.{statement}
 use Rattle.arbiter.proofs.nesting.pop.Tie as tie
 
-put-at-requires : tie.Need-put-at-requires
-put-at-requires c κs = search needs
-
-same-length : tie.Need-same-length
-same-length c = search needs
-
 returns : tie.Need-returns
 unfolding popped
 returns c =
@@ -27,4 +21,4 @@ returns-2 c =
     simp (sym (s .pre .1), le-ltb (s .args .level) 7 (omega (arith, c .if1 .left)))
 
 pub pop-spec : {M : Type 1} → statement M
-pop-spec = tie.close (tie.spec put-at-requires same-length returns returns-2)
+pop-spec = tie.close (tie.spec (λ c κs. search needs) (λ c. search needs) returns returns-2)

@@ -7,15 +7,6 @@ use Rattle.rules.specs.Arbitration.{pushed}
 use Rattle.arbiter.proofs.nesting.push.Statement.{statement}
 use Rattle.arbiter.proofs.nesting.push.Tie as tie
 
-slice-read-cpl : tie.Need-slice-read-cpl
-slice-read-cpl c = search needs
-
-put-at-requires : tie.Need-put-at-requires
-put-at-requires c κs = search needs
-
-same-length : tie.Need-same-length
-same-length c = search needs
-
 returns : tie.Need-returns
 unfolding pushed
 returns c =
@@ -27,4 +18,4 @@ unfolding pushed
 returns-2 c = simp (lt-leb (CPL (c .before .before .before .args .image .now)) 6 (omega (arith, c .if1 .left)))
 
 pub push-spec : {M : Type 1} → statement M
-push-spec = tie.close (tie.spec slice-read-cpl put-at-requires same-length returns returns-2)
+push-spec = tie.close (tie.spec (λ c. search needs) (λ c κs. search needs) (λ c. search needs) returns returns-2)

@@ -8,9 +8,6 @@ use Rattle.rules.proofs.RestoredLaws.{restored-trailing, trailing-word}
 use Rattle.arbiter.proofs.nesting.restored_level.Statement.{statement}
 use Rattle.arbiter.proofs.nesting.restored_level.Tie as tie
 
-shared-slice-read-levels : tie.Need-shared-slice-read-levels
-shared-slice-read-levels c = search needs
-
 cast-result : tie.Need-cast-result
 cast-result c = fits-or (fits-and-r (at (c .before .args .image .now) NICR) (fits-lit tt)) (fits-lit tt)
 
@@ -24,4 +21,4 @@ returns c =
 
 pub restored-level-spec : {M : Type 1} → statement M
 restored-level-spec =
-    tie.close (tie.spec shared-slice-read-levels cast-result cast-result-2 returns)
+    tie.close (tie.spec (λ c. search needs) cast-result cast-result-2 returns)

@@ -8,29 +8,14 @@ use Rattle.rules.proofs.RestoredLaws.{restored-le}
 use Rattle.arbiter.proofs.nesting.unnest.Statement.{statement}
 use Rattle.arbiter.proofs.nesting.unnest.Tie as tie
 
-slice-read-has-bit : tie.Need-slice-read-has-bit
-slice-read-has-bit c = search needs
-
-has-bit-requires : tie.Need-has-bit-requires
-has-bit-requires c κs = search needs
-
 returns : tie.Need-returns
 returns c = simp (sym (c .before .has-bit .ensures) ∙ not-true _ (c .if1 .taken))
-
-restored-level-requires : tie.Need-restored-level-requires
-restored-level-requires c κs = search needs
-
-pop-requires : tie.Need-pop-requires
-pop-requires c κs = search needs
 
 put-cpl-requires : tie.Need-put-cpl-requires
 put-cpl-requires c κs =
     let l = c .before .before .before .before .before in
     let s = l .before .before .before .before .before .before in
     (search needs, omega (arith, l .restored-level .ensures, restored-le (s .args .image .now)))
-
-same-length : tie.Need-same-length
-same-length c = search needs
 
 returns-2 : tie.Need-returns-2
 unfolding unnested
@@ -44,11 +29,11 @@ pub unnest-spec : {M : Type 1} → statement M
 unnest-spec =
     tie.close
     (tie.spec
-    slice-read-has-bit
-    has-bit-requires
+    (λ c. search needs)
+    (λ c κs. search needs)
     returns
-    restored-level-requires
-    pop-requires
+    (λ c κs. search needs)
+    (λ c κs. search needs)
     put-cpl-requires
-    same-length
+    (λ c. search needs)
     returns-2)

@@ -5,12 +5,9 @@ use Rattle.rules.specs.Transfer.{lessOne}
 use Rattle.arbiter.proofs.transfer.less_one.Statement.{statement}
 use Rattle.arbiter.proofs.transfer.less_one.Tie as tie
 
-wrapping-sub-u8-requires : tie.Need-wrapping-sub-u8-requires
-wrapping-sub-u8-requires c κs = search needs
-
 returns : tie.Need-returns
 unfolding lessOne
 returns c = omega (arith, c .wrapping-sub-u8 .ensures, c .wrapping-sub-u8 .ok)
 
 pub less-one-spec : {M : Type 1} → statement M
-less-one-spec = tie.close (tie.spec wrapping-sub-u8-requires returns)
+less-one-spec = tie.close (tie.spec (λ c κs. search needs) returns)

@@ -17,20 +17,11 @@ slice-read-image c =
     let s = d .before .before in
     omega (arith, s .pre .0, register-place (s .args .c) (s .pre .1) 4 (omega arith) _ (d .page-byte .ensures) .1)
 
-slice-write-image : tie.Need-slice-write-image
-slice-write-image c = search needs
-
-slice-read-image-2 : tie.Need-slice-read-image-2
-slice-read-image-2 c = search needs
-
 slice-write-image-2 : tie.Need-slice-write-image-2
 slice-write-image-2 c =
     let d = c .before .before .before in
     let s = d .before .before in
     omega (arith, s .pre .0, register-place (s .args .c) (s .pre .1) 4 (omega arith) _ (d .page-byte .ensures) .1)
-
-same-length : tie.Need-same-length
-same-length c = search needs
 
 returns : tie.Need-returns
 unfolding movedByte
@@ -38,9 +29,6 @@ returns c =
     let d = c .before .before .before in
     let s = d .before .before in
     simp (eq-eqb _ _ (c .before .if1 .taken), register-place (s .args .c) (s .pre .1) 4 (omega arith) _ (d .page-byte .ensures) .0)
-
-same-length-2 : tie.Need-same-length-2
-same-length-2 c = search needs
 
 returns-2 : tie.Need-returns-2
 unfolding movedByte
@@ -55,10 +43,10 @@ move-byte-spec =
     (tie.spec
     page-byte-requires
     slice-read-image
-    slice-write-image
-    slice-read-image-2
+    (λ c. search needs)
+    (λ c. search needs)
     slice-write-image-2
-    same-length
+    (λ c. search needs)
     returns
-    same-length-2
+    (λ c. search needs)
     returns-2)

@@ -16,9 +16,6 @@ slice-read-has-bit c =
     let s = d .before .before in
     omega (arith, s .pre .0, register-place (s .args .c) (s .pre .1) 0 (omega arith) _ (d .page-byte .ensures) .1)
 
-has-bit-requires : tie.Need-has-bit-requires
-has-bit-requires c κs = search needs
-
 put-at-requires : tie.Need-put-at-requires
 put-at-requires c κs =
     let d = c .before .before .before .before in
@@ -31,9 +28,6 @@ put-at-requires-2 c κs =
     let d = p .before .before .before .before .before in
     let s = d .before .before in
     (omega (arith, p .put-at .kept .0, s .pre .0, register-place (s .args .c) (s .pre .1) 0 (omega arith) _ (d .page-byte .ensures) .1), omega arith)
-
-same-length : tie.Need-same-length
-same-length c = search needs
 
 returns : tie.Need-returns
 unfolding settled
@@ -56,9 +50,6 @@ put-at-requires-3 c κs =
     let s = d .before .before in
     (omega (arith, s .pre .0, register-place (s .args .c) (s .pre .1) 0 (omega arith) _ (d .page-byte .ensures) .1), omega arith)
 
-same-length-2 : tie.Need-same-length-2
-same-length-2 c = search needs
-
 returns-2 : tie.Need-returns-2
 unfolding settled
 returns-2 c =
@@ -77,11 +68,11 @@ settle-spec =
     (tie.spec
     page-byte-requires
     slice-read-has-bit
-    has-bit-requires
+    (λ c κs. search needs)
     put-at-requires
     put-at-requires-2
-    same-length
+    (λ c. search needs)
     returns
     put-at-requires-3
-    same-length-2
+    (λ c. search needs)
     returns-2)

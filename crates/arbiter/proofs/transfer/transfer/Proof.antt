@@ -36,9 +36,6 @@ returns-2 c =
     let d = c .before in
     simp (sym (d .before .before .page-byte .ensures), d .if1 .left, lt-ltb _ _ (c .if2 .taken))
 
-slice-read-if3 : tie.Need-slice-read-if3
-slice-read-if3 c = search needs
-
 cast-if3 : tie.Need-cast-if3
 cast-if3 c =
     let p = c .before .before .before .before in
@@ -59,9 +56,6 @@ serve-requires c κs =
     let p = e .before .before .before in
     let s = p .before .before in
     (s .pre .0, s .pre .1, rw (p .page-byte .ensures), e .if2 .left, d .if3 .left)
-
-same-length : tie.Need-same-length
-same-length c = search needs
 
 returns-4 : tie.Need-returns-4
 unfolding transferOf dcprByte pairOf
@@ -88,9 +82,9 @@ transfer-spec =
     mul-n
     cast-n
     returns-2
-    slice-read-if3
+    (λ c. search needs)
     cast-if3
     returns-3
     serve-requires
-    same-length
+    (λ c. search needs)
     returns-4)

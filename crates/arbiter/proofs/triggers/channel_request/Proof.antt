@@ -25,9 +25,6 @@ returns c =
     let s = c .before .before in
     simp (list-count _ (s .good .1 .0) (s .pre .1), le-ltb _ _ (c .if1 .taken))
 
-mul-c : tie.Need-mul-c
-mul-c c = search needs
-
 element-copy-out-c : tie.Need-element-copy-out-c
 element-copy-out-c c =
     let s = c .before .before in
@@ -46,9 +43,6 @@ raise-requires c κs =
     let i = item-taken _ (s .good .1 .0) (s .pre .1) (s .args .number) (e .if1 .left) in
     let place = i .place 0 (omega arith) _ (c .before .page-byte .ensures) in
     (omega (arith, s .pre .0, place .1), omega arith)
-
-same-length : tie.Need-same-length
-same-length c = search needs
 
 returns-2 : tie.Need-returns-2
 unfolding triggerOf fire triggerVerdict selects selectsTop sourceEffect raiseSource topEffect raiseTop pending
@@ -74,9 +68,9 @@ channel-request-spec =
     tie.close
     (tie.spec
     returns
-    mul-c
+    (λ c. search needs)
     element-copy-out-c
     page-byte-requires
     raise-requires
-    same-length
+    (λ c. search needs)
     returns-2)

@@ -9,24 +9,6 @@ returns : tie.Need-returns
 unfolding triggerOf fire triggerVerdict
 returns c cs = simp (lt-ltb _ _ (c .if1 .taken))
 
-slice-read-eivr : tie.Need-slice-read-eivr
-slice-read-eivr c = search needs
-
-has-bit-requires : tie.Need-has-bit-requires
-has-bit-requires c κs = search needs
-
-has-bit-requires-2 : tie.Need-has-bit-requires-2
-has-bit-requires-2 c κs = search needs
-
-edge-matches-requires : tie.Need-edge-matches-requires
-edge-matches-requires c κs = search needs
-
-raise-requires : tie.Need-raise-requires
-raise-requires c κs = search needs
-
-same-length : tie.Need-same-length
-same-length c = search needs
-
 returns-2 : tie.Need-returns-2
 unfolding triggerOf fire triggerVerdict selects selectsTop sourceEffect raiseSource topEffect raiseTop
 returns-2 c cs =
@@ -47,10 +29,10 @@ nmi-edge-spec =
     tie.close
     (tie.spec
     returns
-    slice-read-eivr
-    has-bit-requires
-    has-bit-requires-2
-    edge-matches-requires
-    raise-requires
-    same-length
+    (λ c. search needs)
+    (λ c κs. search needs)
+    (λ c κs. search needs)
+    (λ c κs. search needs)
+    (λ c κs. search needs)
+    (λ c. search needs)
     returns-2)

@@ -25,31 +25,16 @@ cast-k c =
     let args = c .before .before .args in
     omega (arith, low-pin (args .pin) (args .direction) (c .if1 .left))
 
-slice-read-has-bit : tie.Need-slice-read-has-bit
-slice-read-has-bit c = search needs
-
 has-bit-requires : tie.Need-has-bit-requires
 has-bit-requires c κs =
     let args = c .before .before .before .args in
     low-pin (args .pin) (args .direction) (c .before .if1 .left)
-
-edge-matches-requires : tie.Need-edge-matches-requires
-edge-matches-requires c κs = search needs
-
-slice-read-has-bit-2 : tie.Need-slice-read-has-bit-2
-slice-read-has-bit-2 c = search needs
-
-has-bit-requires-2 : tie.Need-has-bit-requires-2
-has-bit-requires-2 c κs = search needs
 
 raise-requires : tie.Need-raise-requires
 raise-requires c κs =
     let s = c .before .before .before .before .before .before in
     let args = s .before .before .args in
     (omega (arith, s .before .before .pre), low-pin (args .pin) (args .direction) (s .if1 .left))
-
-same-length : tie.Need-same-length
-same-length c = search needs
 
 returns-2 : tie.Need-returns-2
 unfolding triggerOf fire triggerVerdict selects selectsTop topEffect raiseTop
@@ -77,11 +62,11 @@ pin-edge-spec =
     (tie.spec
     returns
     cast-k
-    slice-read-has-bit
+    (λ c. search needs)
     has-bit-requires
-    edge-matches-requires
-    slice-read-has-bit-2
-    has-bit-requires-2
+    (λ c κs. search needs)
+    (λ c. search needs)
+    (λ c κs. search needs)
     raise-requires
-    same-length
+    (λ c. search needs)
     returns-2)

@@ -10,18 +10,6 @@ returns c =
     let off = not-true (c .before .before .args .selected) (c .if1 .taken) in
     (rw off, rw off)
 
-slice-read-has-bit : tie.Need-slice-read-has-bit
-slice-read-has-bit c = search needs
-
-has-bit-requires : tie.Need-has-bit-requires
-has-bit-requires c κs = search needs
-
-put-at-requires : tie.Need-put-at-requires
-put-at-requires c κs = search needs
-
-same-length : tie.Need-same-length
-same-length c = search needs
-
 returns-2 : tie.Need-returns-2
 returns-2 c =
     let p = c .before .before .before in
@@ -29,9 +17,6 @@ returns-2 c =
     let s = h .before .before in
     let on = not-false (s .before .before .args .selected) (s .if1 .left) in
     (simp (on, sym (h .has-bit .ensures), c .if2 .taken), simp (on, p .put-at .ensures))
-
-same-length-2 : tie.Need-same-length-2
-same-length-2 c = search needs
 
 returns-3 : tie.Need-returns-3
 returns-3 c =
@@ -46,10 +31,10 @@ raise-spec =
     tie.close
     (tie.spec
     returns
-    slice-read-has-bit
-    has-bit-requires
-    put-at-requires
-    same-length
+    (λ c. search needs)
+    (λ c κs. search needs)
+    (λ c κs. search needs)
+    (λ c. search needs)
     returns-2
-    same-length-2
+    (λ c. search needs)
     returns-3)

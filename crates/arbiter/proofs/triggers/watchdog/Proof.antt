@@ -18,24 +18,6 @@ top-stays : (m : Image) (b : Bool) → has (cond b (put m (bitOf EIPR 0) true) m
 top-stays m b =
     cond-elim (λ i. has i TLIP ≡ has m TLIP) b (λ t. has-put-other m (bitOf EIPR 0) true TLIP (lit< tt) (lit< tt) (inl (λ e. omega arith))) (λ f. refl)
 
-slice-read-eivr : tie.Need-slice-read-eivr
-slice-read-eivr c = search needs
-
-has-bit-requires : tie.Need-has-bit-requires
-has-bit-requires c κs = search needs
-
-raise-requires : tie.Need-raise-requires
-raise-requires c κs = search needs
-
-has-bit-requires-2 : tie.Need-has-bit-requires-2
-has-bit-requires-2 c κs = search needs
-
-raise-requires-2 : tie.Need-raise-requires-2
-raise-requires-2 c κs = search needs
-
-same-length : tie.Need-same-length
-same-length c = search needs
-
 returns : tie.Need-returns
 unfolding triggerOf fire triggerVerdict selects selectsTop topEffect raiseTop
 returns c cs =
@@ -58,10 +40,10 @@ pub watchdog-spec : {M : Type 1} → statement M
 watchdog-spec =
     tie.close
     (tie.spec
-    slice-read-eivr
-    has-bit-requires
-    raise-requires
-    has-bit-requires-2
-    raise-requires-2
-    same-length
+    (λ c. search needs)
+    (λ c κs. search needs)
+    (λ c κs. search needs)
+    (λ c κs. search needs)
+    (λ c κs. search needs)
+    (λ c. search needs)
     returns)

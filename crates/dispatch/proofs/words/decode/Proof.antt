@@ -5,15 +5,6 @@ use Rattle.rules.specs.Steps.{stepBy, decodeOf}
 use Rattle.dispatch.proofs.words.decode.Statement.{statement}
 use Rattle.dispatch.proofs.words.decode.Tie as tie
 
-cast-first : tie.Need-cast-first
-cast-first c = search needs
-
-cast-second : tie.Need-cast-second
-cast-second c = search needs
-
-trigger-by-requires : tie.Need-trigger-by-requires
-trigger-by-requires c κs = search needs
-
 returns : tie.Need-returns
 unfolding stepBy decodeOf
 returns c = rw (c .match .keys1)
@@ -55,9 +46,9 @@ pub decode-spec : {M : Type 1} → statement M
 decode-spec =
     tie.close
     (tie.spec
-    cast-first
-    cast-second
-    trigger-by-requires
+    (λ c. search needs)
+    (λ c. search needs)
+    (λ c κs. search needs)
     returns
     returns-2
     returns-3

@@ -5,27 +5,9 @@ use borrow.Author.Needs.{needs}
 use Rattle.handlers.proofs.changes.basis_at.Statement.{statement}
 use Rattle.handlers.proofs.changes.basis_at.Tie as tie
 
-returns : tie.Need-returns
-returns c = search needs
-
-returns-2 : tie.Need-returns-2
-returns-2 c = search needs
-
-returns-3 : tie.Need-returns-3
-returns-3 c = search needs
-
-returns-4 : tie.Need-returns-4
-returns-4 c = search needs
-
-returns-5 : tie.Need-returns-5
-returns-5 c = search needs
-
-returns-6 : tie.Need-returns-6
-returns-6 c = search needs
-
 returns-7 : tie.Need-returns-7
 returns-7 c = let last : c .before .args .k ≡ 6 = omega arith in rw last
 
 pub basis-at-spec : {M : Type 1} → statement M
 basis-at-spec =
-    tie.close (tie.spec returns returns-2 returns-3 returns-4 returns-5 returns-6 returns-7)
+    tie.close (tie.spec (λ c. search needs) (λ c. search needs) (λ c. search needs) (λ c. search needs) (λ c. search needs) (λ c. search needs) returns-7)

@@ -12,17 +12,8 @@ use Rattle.handlers.proofs.changes.raised_rival.Tie as tie
 not-yet : (c : tie.Else1) → let a = c .before .before .before .before .before .args in pending (now (a .before)) (listOf (a .all)) (a .k) ≡ false
 not-yet c = sym (c .before .is-pending .ensures) ∙ c .if1 .left
 
-is-pending-requires : tie.Need-is-pending-requires
-is-pending-requires c κs = search needs
-
 returns : tie.Need-returns
 returns c = rw (sym (c .before .is-pending .ensures) ∙ c .if1 .taken)
-
-is-pending-requires-2 : tie.Need-is-pending-requires-2
-is-pending-requires-2 c κs = search needs
-
-is-rival-requires : tie.Need-is-rival-requires
-is-rival-requires c κs = search needs
 
 returns-2 : tie.Need-returns-2
 returns-2 c =
@@ -41,10 +32,10 @@ pub raised-rival-spec : {M : Type 1} → statement M
 raised-rival-spec =
     tie.close
     (tie.spec
-    is-pending-requires
+    (λ c κs. search needs)
     returns
-    is-pending-requires-2
-    is-rival-requires
+    (λ c κs. search needs)
+    (λ c κs. search needs)
     returns-2
     returns-3
     returns-4)

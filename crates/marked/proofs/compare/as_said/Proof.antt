@@ -4,12 +4,6 @@ use Rattle.rules.proofs.Bools.{and-l, and-r}
 use Rattle.marked.proofs.compare.as_said.Statement.{statement}
 use Rattle.marked.proofs.compare.as_said.Tie as tie
 
-same-answer-requires : tie.Need-same-answer-requires
-same-answer-requires c κs = search needs
-
-same-image-requires : tie.Need-same-image-requires
-same-image-requires c κs = search needs
-
 returns : tie.Need-returns
 returns c =
     let a = c .before .same-answer in
@@ -17,4 +11,4 @@ returns c =
     λ e. (a .ensures (and-l (a .result) (m .result) e), m .ensures (and-r (a .result) (m .result) e))
 
 pub as-said-spec : {M : Type 1} → statement M
-as-said-spec = tie.close (tie.spec same-answer-requires same-image-requires returns)
+as-said-spec = tie.close (tie.spec (λ c κs. search needs) (λ c κs. search needs) returns)

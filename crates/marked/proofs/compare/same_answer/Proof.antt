@@ -6,12 +6,6 @@ use Rattle.marked.proofs.CompareLaws.{same-numbers}
 use Rattle.marked.proofs.compare.same_answer.Statement.{statement}
 use Rattle.marked.proofs.compare.same_answer.Tie as tie
 
-of-step-requires : tie.Need-of-step-requires
-of-step-requires c κs = search needs
-
-of-step-requires-2 : tie.Need-of-step-requires-2
-of-step-requires-2 c κs = search needs
-
 returns : tie.Need-returns
 returns c =
     let d = c .before .before .before .before .before .before .before .before .before .before .before .before in
@@ -20,4 +14,4 @@ returns c =
     λ e. told-injective (d .before .before .args .a) (d .before .before .args .b) (sym (f .ensures) ∙ same-numbers (f .result) (g .result) e ∙ g .ensures)
 
 pub same-answer-spec : {M : Type 1} → statement M
-same-answer-spec = tie.close (tie.spec of-step-requires of-step-requires-2 returns)
+same-answer-spec = tie.close (tie.spec (λ c κs. search needs) (λ c κs. search needs) returns)

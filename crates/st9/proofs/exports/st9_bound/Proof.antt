@@ -4,15 +4,6 @@ use Rattle.st9.proofs.PackedPromises.{packed-bounds}
 use Rattle.st9.proofs.exports.st9_bound.Statement.{statement}
 use Rattle.st9.proofs.exports.st9_bound.Tie as tie
 
-unpacked-requires : tie.Need-unpacked-requires
-unpacked-requires c κs = search needs
-
-bound-requires : tie.Need-bound-requires
-bound-requires c κs = search needs
-
-of-bound-requires : tie.Need-of-bound-requires
-of-bound-requires c κs = search needs
-
 returns : tie.Need-returns
 returns c =
     let p = c .before in
@@ -24,4 +15,4 @@ returns c =
     )
 
 pub st9-bound-spec : {M : Type 1} → statement M
-st9-bound-spec = tie.close (tie.spec unpacked-requires bound-requires of-bound-requires returns)
+st9-bound-spec = tie.close (tie.spec (λ c κs. search needs) (λ c κs. search needs) (λ c κs. search needs) returns)

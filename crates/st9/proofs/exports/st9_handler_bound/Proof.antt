@@ -4,15 +4,6 @@ use Rattle.st9.proofs.PackedPromises.{packed-handler-bounds}
 use Rattle.st9.proofs.exports.st9_handler_bound.Statement.{statement}
 use Rattle.st9.proofs.exports.st9_handler_bound.Tie as tie
 
-unpacked-requires : tie.Need-unpacked-requires
-unpacked-requires c κs = search needs
-
-handler-bound-requires : tie.Need-handler-bound-requires
-handler-bound-requires c κs = search needs
-
-of-bound-requires : tie.Need-of-bound-requires
-of-bound-requires c κs = search needs
-
 returns : tie.Need-returns
 returns c =
     let p = c .before in
@@ -24,4 +15,4 @@ returns c =
     )
 
 pub st9-handler-bound-spec : {M : Type 1} → statement M
-st9-handler-bound-spec = tie.close (tie.spec unpacked-requires handler-bound-requires of-bound-requires returns)
+st9-handler-bound-spec = tie.close (tie.spec (λ c κs. search needs) (λ c κs. search needs) (λ c κs. search needs) returns)

@@ -4,18 +4,6 @@ use Rattle.st9.proofs.PackedPromises.{packed-runs}
 use Rattle.st9.proofs.exports.st9_run.Statement.{statement}
 use Rattle.st9.proofs.exports.st9_run.Tie as tie
 
-unpacked-requires : tie.Need-unpacked-requires
-unpacked-requires c κs = search needs
-
-run-requires : tie.Need-run-requires
-run-requires c κs = search needs
-
-of-run-requires : tie.Need-of-run-requires
-of-run-requires c κs = search needs
-
-same-length : tie.Need-same-length
-same-length c = search needs
-
 returns : tie.Need-returns
 returns c =
     let p = c .before .before .before in
@@ -28,4 +16,4 @@ returns c =
 
 pub st9-run-spec : {M : Type 1} → statement M
 st9-run-spec =
-    tie.close (tie.spec unpacked-requires run-requires of-run-requires same-length returns)
+    tie.close (tie.spec (λ c κs. search needs) (λ c κs. search needs) (λ c κs. search needs) (λ c. search needs) returns)

@@ -4,18 +4,6 @@ use Rattle.st9.proofs.PackedPromises.{packed-does}
 use Rattle.st9.proofs.exports.st9_step.Statement.{statement}
 use Rattle.st9.proofs.exports.st9_step.Tie as tie
 
-unpacked-requires : tie.Need-unpacked-requires
-unpacked-requires c κs = search needs
-
-perform-requires : tie.Need-perform-requires
-perform-requires c κs = search needs
-
-of-step-requires : tie.Need-of-step-requires
-of-step-requires c κs = search needs
-
-same-length : tie.Need-same-length
-same-length c = search needs
-
 returns : tie.Need-returns
 returns c =
     let p = c .before .before .before in
@@ -28,4 +16,4 @@ returns c =
 
 pub st9-step-spec : {M : Type 1} → statement M
 st9-step-spec =
-    tie.close (tie.spec unpacked-requires perform-requires of-step-requires same-length returns)
+    tie.close (tie.spec (λ c κs. search needs) (λ c κs. search needs) (λ c κs. search needs) (λ c. search needs) returns)

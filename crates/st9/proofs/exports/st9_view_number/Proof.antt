@@ -5,14 +5,8 @@ use Rattle.rules.specs.Answers.{toldVerdict}
 use Rattle.st9.proofs.exports.st9_view_number.Statement.{statement}
 use Rattle.st9.proofs.exports.st9_view_number.Tie as tie
 
-view-verdict-requires : tie.Need-view-verdict-requires
-view-verdict-requires c κs = search needs
-
-verdict-number-requires : tie.Need-verdict-number-requires
-verdict-number-requires c κs = search needs
-
 returns : tie.Need-returns
 returns c = c .verdict-number .ensures ∙ ap toldVerdict (c .before .view-verdict .ensures)
 
 pub st9-view-number-spec : {M : Type 1} → statement M
-st9-view-number-spec = tie.close (tie.spec view-verdict-requires verdict-number-requires returns)
+st9-view-number-spec = tie.close (tie.spec (λ c κs. search needs) (λ c κs. search needs) returns)

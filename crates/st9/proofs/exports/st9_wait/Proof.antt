@@ -4,18 +4,6 @@ use Rattle.st9.proofs.PackedPromises.{packed-waits}
 use Rattle.st9.proofs.exports.st9_wait.Statement.{statement}
 use Rattle.st9.proofs.exports.st9_wait.Tie as tie
 
-unpacked-requires : tie.Need-unpacked-requires
-unpacked-requires c κs = search needs
-
-wait-requires : tie.Need-wait-requires
-wait-requires c κs = search needs
-
-of-wait-requires : tie.Need-of-wait-requires
-of-wait-requires c κs = search needs
-
-same-length : tie.Need-same-length
-same-length c = search needs
-
 returns : tie.Need-returns
 returns c =
     let p = c .before .before .before in
@@ -28,4 +16,4 @@ returns c =
 
 pub st9-wait-spec : {M : Type 1} → statement M
 st9-wait-spec =
-    tie.close (tie.spec unpacked-requires wait-requires of-wait-requires same-length returns)
+    tie.close (tie.spec (λ c κs. search needs) (λ c κs. search needs) (λ c κs. search needs) (λ c. search needs) returns)
