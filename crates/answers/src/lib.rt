@@ -10,7 +10,7 @@ use rules::Verdict;
 use rules::Waited;
 ghost use mathlib.Core.Path.{_≡_};
 ghost use Rattle.rules.specs.Runs.{oneIf};
-ghost use Rattle.rules.specs.Answers.{refusalNumber, toldVerdict, effectNumber, flat, tell, tellRefused, told, toldRun, toldWait, basisNumber, toldBound};
+ghost use Rattle.rules.specs.Encodings.{refusalNumber, toldVerdict, effectNumber, flat, tell, tellRefused, told, toldRun, toldWait, basisNumber, toldBound};
 
 // Document 01's number of a refusal.
 fn refusal_number(r: Refusal) -> u64

@@ -17,13 +17,13 @@ ghost use Prim.Native.Nat.{_<_};
 ghost use lib.ListN.{length};
 ghost use Rattle.rules.specs.Image.{imageLength};
 ghost use Rattle.rules.specs.Channels.{listOk, listOf};
-ghost use Rattle.rules.specs.Outcomes.{change};
-ghost use Rattle.rules.specs.Sources.{sources};
-ghost use Rattle.rules.specs.Arbitration.{vectorOf, cleared, granted};
+ghost use Rattle.rules.specs.Sources.{sources, AcceptedSource};
+ghost use Rattle.rules.specs.Arbitration.{vectorOf, cleared};
+ghost use Rattle.arbiter.specs.Raised.{Acknowledges};
 
 // EIVR's upper half plus 2k, or IVR with bit 0 cleared.
 fn vector_of(image: &[u8], all: Channels, source: u8) -> u8
-    requires { ⌜ (length (now image) ≡ imageLength) × (listOk (listOf all) ≡ true) × (source < sources (listOf all)) ⌝ }
+    requires { ⌜ AcceptedSource (now image) (listOf all) source ⌝ }
     ensures { λ v. ⌜ v ≡ vectorOf (now (image .entry)) (listOf all) source ⌝ }
 {
     let s = source as usize;
@@ -36,7 +36,7 @@ fn vector_of(image: &[u8], all: Channels, source: u8) -> u8
 
 // Clears the source's EIPR or IP bit.
 fn clear_pending(image: &mut [u8], all: Channels, source: u8)
-    requires { ⌜ (length (now image) ≡ imageLength) × (listOk (listOf all) ≡ true) × (source < sources (listOf all)) ⌝ }
+    requires { ⌜ AcceptedSource (now image) (listOf all) source ⌝ }
     ensures { λ _. ⌜ now (image .exit) ≡ cleared (now (image .entry)) (listOf all) source ⌝ }
 {
     let s = source as usize;
@@ -51,7 +51,7 @@ fn clear_pending(image: &mut [u8], all: Channels, source: u8)
 // An acknowledgement: in nested mode the levels first; then the source's bit and IEN are cleared.
 pub(crate) fn acknowledge(image: &mut [u8], all: Channels, source: u8, level: u8) -> Answer
     requires { ⌜ (length (now image) ≡ imageLength) × (listOk (listOf all) ≡ true) × (source < sources (listOf all)) × (level < 8) ⌝ }
-    ensures { λ a. ⌜ change a (now (image .exit)) ≡ granted (now (image .entry)) (listOf all) (Winner.Interrupt source level) ⌝ }
+    ensures { λ a. ⌜ Acknowledges (now (image .entry)) (listOf all) source level a (now (image .exit)) ⌝ }
 {
     let vector = vector_of(image, all, source);
     nest(image, level);

@@ -29,19 +29,18 @@ use triggers::nmi_edge;
 use triggers::pin_edge;
 use triggers::watchdog;
 ghost use mathlib.Core.Path.{_≡_};
-ghost use mathlib.Core.Bool.{true};
 ghost use lib.ListN.{length};
 ghost use Rattle.rules.specs.Image.{imageLength, inService};
-ghost use Rattle.rules.specs.Channels.{listOk, listOf};
-ghost use Rattle.rules.specs.Outcomes.{change};
+ghost use Rattle.rules.specs.Channels.{listOf, Accepted};
+ghost use Rattle.rules.specs.Outcomes.{outcome};
 ghost use Rattle.rules.specs.Triggers.{triggerOf};
-ghost use Rattle.rules.specs.Arbitration.{topLevel, enteredTop, arbitration};
+ghost use Rattle.rules.specs.Arbitration.{topLevel, enteredTop, arbitrateOf};
 ghost use Rattle.rules.specs.Return.{returnOf};
 
 // A trigger: refused with 4 or 7, or answered for the maskable bit and for TLIP.
 pub fn trigger(image: &mut [u8], all: Channels, event: Trigger) -> Answer
-    requires { ⌜ (length (now image) ≡ imageLength) × (listOk (listOf all) ≡ true) ⌝ }
-    ensures { λ a. ⌜ change a (now (image .exit)) ≡ triggerOf (now (image .entry)) (listOf all) event ⌝ }
+    requires { ⌜ Accepted (now image) (listOf all) ⌝ }
+    ensures { λ a. ⌜ outcome a (now (image .exit)) ≡ triggerOf (now (image .entry)) (listOf all) event ⌝ }
 {
     match event {
         Trigger::Pin { pin, direction } => pin_edge(image, pin, direction),
@@ -80,8 +79,8 @@ fn enter_top(image: &mut [u8])
 
 // An arbitration: nothing while the mark is set; the top level; then what the winner gets.
 pub fn arbitrate(image: &mut [u8], all: Channels) -> Answer
-    requires { ⌜ (length (now image) ≡ imageLength) × (listOk (listOf all) ≡ true) ⌝ }
-    ensures { λ a. ⌜ change a (now (image .exit)) ≡ arbitration (now (image .entry)) (listOf all) ⌝ }
+    requires { ⌜ Accepted (now image) (listOf all) ⌝ }
+    ensures { λ a. ⌜ outcome a (now (image .exit)) ≡ arbitrateOf (now (image .entry)) (listOf all) ⌝ }
 {
     if in_service(image) {
         return Answer::Nothing;
@@ -103,7 +102,7 @@ pub fn arbitrate(image: &mut [u8], all: Channels) -> Answer
 // The return: clears the mark where it is set; else sets IEN and, in nested mode, restores the level.
 pub fn return_from_interrupt(image: &mut [u8]) -> Answer
     requires { ⌜ length (now image) ≡ imageLength ⌝ }
-    ensures { λ a. ⌜ change a (now (image .exit)) ≡ returnOf (now (image .entry)) ⌝ }
+    ensures { λ a. ⌜ outcome a (now (image .exit)) ≡ returnOf (now (image .entry)) ⌝ }
 {
     if in_service(image) {
         image[MARK] = 0;

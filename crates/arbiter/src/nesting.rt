@@ -6,12 +6,11 @@ use rules::CICR;
 use rules::IAM;
 use rules::NICR;
 ghost use mathlib.Core.Path.{_≡_};
-ghost use mathlib.Core.Bool.{cond};
 ghost use Prim.Native.Nat.{_<_};
 ghost use lib.ListN.{length};
-ghost use Rattle.rules.specs.Image.{imageLength, has, IAM};
-ghost use Rattle.rules.specs.Arbitration.{pushed, nested};
-ghost use Rattle.rules.specs.Return.{restoredLevel, popped, unnested};
+ghost use Rattle.rules.specs.Image.{imageLength};
+ghost use Rattle.rules.specs.Arbitration.{pushed, acknowledgedLevels};
+ghost use Rattle.rules.specs.Return.{restoredLevel, popped, returnedLevels};
 
 // Sets HLx for x = CPL, if that is at most 6.
 fn push(image: &mut [u8])
@@ -27,7 +26,7 @@ fn push(image: &mut [u8])
 // In nested mode pushes the current level; the level becomes the current one.
 pub(crate) fn nest(image: &mut [u8], level: u8)
     requires { ⌜ (length (now image) ≡ imageLength) × (level < 8) ⌝ }
-    ensures { λ _. ⌜ now (image .exit) ≡ cond (has (now (image .entry)) IAM) (nested (now (image .entry)) level) (now (image .entry)) ⌝ }
+    ensures { λ _. ⌜ now (image .exit) ≡ acknowledgedLevels (now (image .entry)) level ⌝ }
 {
     if !has_bit(image[CICR], IAM) {
         return;
@@ -58,7 +57,7 @@ fn pop(image: &mut [u8], level: u8)
 // In nested mode pops the restored level, which becomes the current one.
 pub(crate) fn unnest(image: &mut [u8])
     requires { ⌜ length (now image) ≡ imageLength ⌝ }
-    ensures { λ _. ⌜ now (image .exit) ≡ cond (has (now (image .entry)) IAM) (unnested (now (image .entry))) (now (image .entry)) ⌝ }
+    ensures { λ _. ⌜ now (image .exit) ≡ returnedLevels (now (image .entry)) ⌝ }
 {
     if !has_bit(image[CICR], IAM) {
         return;

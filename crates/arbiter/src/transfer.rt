@@ -14,10 +14,10 @@ ghost use mathlib.Core.Path.{_≡_};
 ghost use mathlib.Core.Bool.{true};
 ghost use Prim.Native.Nat.{_+_, _≤_, _<_};
 ghost use lib.ListN.{length, set};
-ghost use Rattle.rules.specs.Image.{imageLength, at};
+ghost use Rattle.rules.specs.Image.{imageLength};
 ghost use Rattle.rules.specs.Channels.{recordOk};
-ghost use Rattle.rules.specs.Outcomes.{change};
-ghost use Rattle.rules.specs.Transfer.{pairOf, lastRegister, movedByte, lessOne, settled, served, transferOf};
+ghost use Rattle.rules.specs.Outcomes.{outcome};
+ghost use Rattle.rules.specs.Transfer.{lastRegister, movedByte, lessOne, settled, served, transferOf};
 
 // Moves a byte between the data register and Ra.
 fn move_byte(image: &mut [u8], c: Channel, a: u8)
@@ -64,16 +64,15 @@ fn settle(image: &mut [u8], c: Channel, ended: bool)
     put_at(image, idcr, IP, false);
 }
 
-// The transfer over the pair Rn, R(n+1). Address and counter are read first; what they become is written after the move.
-fn serve(image: &mut [u8], c: Channel, n: usize, source: u8) -> Answer
-    requires { ⌜ (length (now image) ≡ imageLength) × (recordOk c ≡ true) × (n ≡ pairOf (now image) c) × (n ≤ lastRegister) × (at (now image) n ≤ lastRegister) ⌝ }
-    ensures { λ a. ⌜ change a (now (image .exit)) ≡ served (now (image .entry)) c source ⌝ }
+// The transfer over the pair Rn, R(n+1), with the address and the counter that were read first; what they become is written after the move.
+fn serve(image: &mut [u8], c: Channel, source: u8, n: usize, address: u8, count: u8) -> Answer
+    requires { ⌜ (length (now image) ≡ imageLength) × (recordOk c ≡ true) × (n ≤ lastRegister) × (address ≤ lastRegister) ⌝ }
+    ensures { λ a. ⌜ outcome a (now (image .exit)) ≡ served (now (image .entry)) c source n address count ⌝ }
 {
-    let address = image[n];
-    let count = less_one(image[n + 1]);
+    let left = less_one(count);
     move_byte(image, c, address);
-    advance(image, n, address, count);
-    let ended = count == 0;
+    advance(image, n, address, left);
+    let ended = left == 0;
     settle(image, c, ended);
     Answer::Transferred { source, ended }
 }
@@ -81,7 +80,7 @@ fn serve(image: &mut [u8], c: Channel, n: usize, source: u8) -> Answer
 // A DMA service: refused with 5 where DCPR names memory, then with 6 where the pair or the address is over R223.
 pub(crate) fn transfer(image: &mut [u8], c: Channel, source: u8) -> Answer
     requires { ⌜ (length (now image) ≡ imageLength) × (recordOk c ≡ true) ⌝ }
-    ensures { λ a. ⌜ change a (now (image .exit)) ≡ transferOf (now (image .entry)) c source ⌝ }
+    ensures { λ a. ⌜ outcome a (now (image .exit)) ≡ transferOf (now (image .entry)) c source ⌝ }
 {
     let dcpr = image[page_byte(c.page, c.dcpr)];
     let memory = dcpr % 2 == 0;
@@ -92,8 +91,10 @@ pub(crate) fn transfer(image: &mut [u8], c: Channel, source: u8) -> Answer
     if LAST_REGISTER < n {
         return Answer::Refused(Refusal::Pointer);
     }
-    if LAST_REGISTER < (image[n] as usize) {
+    let address = image[n];
+    let count = image[n + 1];
+    if LAST_REGISTER < (address as usize) {
         return Answer::Refused(Refusal::Pointer);
     }
-    serve(image, c, n, source)
+    serve(image, c, source, n, address, count)
 }

@@ -17,20 +17,17 @@ use rules::TLIS;
 use rules::TLTEV;
 use rules::Trigger;
 ghost use mathlib.Core.Path.{_≡_};
-ghost use mathlib.Core.Bool.{true, cond};
-ghost use mathlib.Core.List.{List};
 ghost use Prim.Native.Nat.{_<_};
 ghost use lib.ListN.{length};
-ghost use Rattle.rules.specs.declared.Channel.{Channel};
-ghost use Rattle.rules.specs.Image.{imageLength, bitOf, has, put};
-ghost use Rattle.rules.specs.Channels.{listOk, listOf};
-ghost use Rattle.rules.specs.Outcomes.{change};
-ghost use Rattle.rules.specs.Triggers.{edge, effectOn, triggerOf};
+ghost use Rattle.rules.specs.Image.{imageLength, bitOf};
+ghost use Rattle.rules.specs.Channels.{listOf, Accepted};
+ghost use Rattle.rules.specs.Triggers.{edge};
+ghost use Rattle.arbiter.specs.Raised.{Raises, Fires, FiresIn};
 
 // Sets bit k of a byte where it is selected, and answers what that did.
 fn raise(image: &mut [u8], at: usize, k: u8, selected: bool) -> Effect
     requires { ⌜ (at < length (now image)) × (k < 8) ⌝ }
-    ensures { λ e. ⌜ (e ≡ cond selected (effectOn (has (now (image .entry)) (bitOf at k))) Effect.NotSelected) × (now (image .exit) ≡ cond selected (put (now (image .entry)) (bitOf at k) true) (now (image .entry))) ⌝ }
+    ensures { λ e. ⌜ Raises (now (image .entry)) (bitOf at k) selected e (now (image .exit)) ⌝ }
 {
     if !selected {
         return Effect::NotSelected;
@@ -56,7 +53,7 @@ fn edge_matches(direction: u8, rising: bool) -> bool
 // A pin edge. Pin 0 counts only with IAOS = 1.
 pub(crate) fn pin_edge(image: &mut [u8], pin: u32, direction: u8) -> Answer
     requires { ⌜ length (now image) ≡ imageLength ⌝ }
-    ensures { λ a. ⌜ ((cs : List Channel) → change a (now (image .exit)) ≡ triggerOf (now (image .entry)) cs (Trigger.Pin pin direction)) ⌝ }
+    ensures { λ a. ⌜ Fires (now (image .entry)) (Trigger.Pin pin direction) a (now (image .exit)) ⌝ }
 {
     if (7 < pin) | (1 < direction) {
         return Answer::Refused(Refusal::Number);
@@ -70,7 +67,7 @@ pub(crate) fn pin_edge(image: &mut [u8], pin: u32, direction: u8) -> Answer
 // The watchdog's end of count: EIPR bit 0 with IAOS = 0, and TLIP with TLIS = 0.
 pub(crate) fn watchdog(image: &mut [u8]) -> Answer
     requires { ⌜ length (now image) ≡ imageLength ⌝ }
-    ensures { λ a. ⌜ ((cs : List Channel) → change a (now (image .exit)) ≡ triggerOf (now (image .entry)) cs Trigger.Watchdog) ⌝ }
+    ensures { λ a. ⌜ Fires (now (image .entry)) Trigger.Watchdog a (now (image .exit)) ⌝ }
 {
     let eivr = image[EIVR];
     let maskable = raise(image, EIPR, 0, !has_bit(eivr, IAOS));
@@ -81,7 +78,7 @@ pub(crate) fn watchdog(image: &mut [u8]) -> Answer
 // An NMI edge: TLIP with TLIS = 1, where the direction matches TLTEV.
 pub(crate) fn nmi_edge(image: &mut [u8], direction: u8) -> Answer
     requires { ⌜ length (now image) ≡ imageLength ⌝ }
-    ensures { λ a. ⌜ ((cs : List Channel) → change a (now (image .exit)) ≡ triggerOf (now (image .entry)) cs (Trigger.Nmi direction)) ⌝ }
+    ensures { λ a. ⌜ Fires (now (image .entry)) (Trigger.Nmi direction) a (now (image .exit)) ⌝ }
 {
     if 1 < direction {
         return Answer::Refused(Refusal::Number);
@@ -93,8 +90,8 @@ pub(crate) fn nmi_edge(image: &mut [u8], direction: u8) -> Answer
 
 // A channel request: IP of the record.
 pub(crate) fn channel_request(image: &mut [u8], all: Channels, number: u32) -> Answer
-    requires { ⌜ (length (now image) ≡ imageLength) × (listOk (listOf all) ≡ true) ⌝ }
-    ensures { λ a. ⌜ change a (now (image .exit)) ≡ triggerOf (now (image .entry)) (listOf all) (Trigger.Request number) ⌝ }
+    requires { ⌜ Accepted (now image) (listOf all) ⌝ }
+    ensures { λ a. ⌜ FiresIn (now (image .entry)) (listOf all) (Trigger.Request number) a (now (image .exit)) ⌝ }
 {
     let k = number as usize;
     if all.count <= k {

@@ -15,22 +15,22 @@ use Rattle.rules.specs.declared.Step.the-variants as step
 use Rattle.rules.specs.declared.Trigger.{Trigger}
 use Rattle.rules.specs.declared.Trigger.the-variants as trigger
 use Rattle.rules.specs.declared.Answer.{Answer}
-use Rattle.rules.specs.declared.Verdict.{Verdict}
 use Rattle.rules.specs.declared.Verdict.the-variants as verdict
 use Rattle.rules.specs.declared.Bounded.the-variants as bounded
-use Rattle.rules.specs.Image.{Image, State, state, bitOf, has, EITR, IAOS, IEN}
+use Rattle.rules.specs.Image.{Image, bitOf, has, EITR, IAOS, IEN}
 use Rattle.rules.specs.Channels.{listOk}
+use Rattle.rules.specs.Outcomes.{State, state, Outcome, outcome, isRefused}
 use Rattle.rules.specs.Sources.{sources, pending}
-use Rattle.rules.specs.Triggers.{edge, triggerVerdict, selects, selectsTop, effectOn, sourceEffect, fire, triggerOf}
-use Rattle.rules.specs.Outcomes.{Outcome, outcome, isRefused}
+use Rattle.rules.specs.Triggers.{edge, triggerVerdict, selects, selectsTop, effectOn, sourceEffect, fired, triggerOf}
 use Rattle.rules.specs.Steps.{actOf}
 use Rattle.rules.specs.Runs.{Event, eventOf, history, oneIf, counted}
-use Rattle.rules.specs.Waiting.{H, rival, within, triggers, triggersOf}
-use Rattle.rules.specs.Bounds.{firstFrom, otherStep, disabledStep, stepsElse, boundIn}
+use Rattle.rules.specs.Demand3.{H, rival, within, triggers, triggersOf}
+use Rattle.rules.specs.Bounds.{firstFrom, otherStep, disabledStep, boundIn}
 use Rattle.rules.proofs.ChannelLaws.{list-short}
-use Rattle.rules.proofs.SelectionLaws.{selectIf-some, selected-there}
+use Rattle.rules.proofs.Verdicts.{verdict-elim}
+use Rattle.rules.proofs.SelectionLaws.{selected-is, selected-there}
 use Rattle.rules.proofs.Bools.{impossible}
-use Rattle.bounds.specs.Followed.{selected, selectedIn, noSource, targetBy, targetOf, firstDisabled, followedFrom}
+use Rattle.bounds.specs.Followed.{selected, selectedIn, noSource, targetBy, targetOf, firstDisabled, stepsAnswer, followedFrom}
 use Rattle.dispatch.proofs.NextSteps.{Next, history-next}
 
 -- ---- the source that a step triggered
@@ -38,8 +38,8 @@ use Rattle.dispatch.proofs.NextSteps.{Next, history-next}
 -- what a trigger selects is its one target
 selected-target : (m : Image) (t : Trigger) (k : ℕ) → selects m t ≡ some k → targetBy t ≡ k
 unfolding selects
-selected-target m (trigger.Pin k d) s e = selectIf-some (edge d (has m (bitOf EITR k)) && (not (eqb k 0) || has m IAOS)) k s e
-selected-target m trigger.Watchdog s e = selectIf-some (not (has m IAOS)) 0 s e
+selected-target m (trigger.Pin k d) s e = selected-is (edge d (has m (bitOf EITR k)) && (not (eqb k 0) || has m IAOS)) k s e
+selected-target m trigger.Watchdog s e = selected-is (not (has m IAOS)) 0 s e
 selected-target m (trigger.Nmi d) s e = impossible (cc)
 selected-target m (trigger.Request k) s e = cc
 selected-target m trigger.Unknown s e = impossible (cc)
@@ -58,23 +58,29 @@ module _ (m : Image) (cs : List Channel) (ok : listOk cs ≡ true) (among : ℕ 
   no-target : (a : Answer) → (not (isRefused a) && false) ≡ (selectedIn a && (ltb noSource (sources cs) && among noSource))
   no-target a = rw none-there (and-false (not (isRefused a)) ∙ sym (and-false (selectedIn a)))
 
-  fired : (t : Trigger) (v : Verdict) (o : Option ℕ) → triggerVerdict cs t ≡ v → selects m t ≡ o
-      → (not (isRefused (fire m cs v o (selectsTop m t) .answer)) && within among o) ≡ tells (step.Trigger t) (fire m cs v o (selectsTop m t) .answer)
-  unfolding fire sourceEffect
-  fired t verdict.Accepted none e f = refl
-  fired t verdict.Accepted (some k) e f =
+  -- a trigger that is done is of the source that it selects
+  done : (t : Trigger) (o : Option ℕ) → triggerVerdict cs t ≡ verdict.Accepted → selects m t ≡ o
+      → within among o ≡ tells (step.Trigger t) (fired m cs o (selectsTop m t) .answer)
+  unfolding fired sourceEffect
+  done t none e f = refl
+  done t (some k) e f =
       rw (selected-target m t k f, lt-ltb k (sources cs) (selected-there m cs t e k f)) (go (pending m cs k))
     where
       go : (b : Bool) → among k ≡ (selected (effectOn b) && among k)
       go true = refl
       go false = refl
-  fired t (verdict.Refused r) o e f = refl
 
-  triggers-act : (x : Step) → let o = actOf (state m) cs x in triggers among (eventOf (state m) x (outcome (o .answer) (o .state))) ≡ tells x (o .answer)
-  unfolding actOf triggerOf
+  trigger-tells : (t : Trigger) → (not (isRefused (triggerOf m cs t .answer)) && within among (selects m t)) ≡ tells (step.Trigger t) (triggerOf m cs t .answer)
+  unfolding triggerOf fired
+  trigger-tells t =
+      verdict-elim (λ (o : Outcome Answer Image). (not (isRefused (o .answer)) && within among (selects m t)) ≡ tells (step.Trigger t) (o .answer)) (triggerVerdict cs t)
+      (λ e. done t (selects m t) e refl) (λ r e. refl)
+
+  triggers-act : (x : Step) → let o = actOf (state m) cs x in triggers among (eventOf (state m) x (outcome (o .answer) (o .left))) ≡ tells x (o .answer)
+  unfolding actOf
   triggers-act (step.Read r) = no-target (actOf (state m) cs (step.Read r) .answer)
   triggers-act (step.Write r v) = no-target (actOf (state m) cs (step.Write r v) .answer)
-  triggers-act (step.Trigger t) = fired t (triggerVerdict cs t) (selects m t) refl refl
+  triggers-act (step.Trigger t) = trigger-tells t
   triggers-act step.Arbitrate = no-target (actOf (state m) cs step.Arbitrate .answer)
   triggers-act step.Return = no-target (actOf (state m) cs step.Return .answer)
   triggers-act step.Reset = no-target (actOf (state m) cs step.Reset .answer)
@@ -83,7 +89,7 @@ module _ (m : Image) (cs : List Channel) (ok : listOk cs ≡ true) (among : ℕ 
   -- of a step that was done
   pub triggers-told : (x : Step) (a : Answer) (t : State) → outcome a t ≡ actOf (state m) cs x → triggers among (eventOf (state m) x (outcome a t)) ≡ tells x a
   triggers-told x a t e =
-      subst (λ (o : Outcome). triggers among (eventOf (state m) x o) ≡ tells x (o .answer)) (sym e) (triggers-act x)
+      subst (λ (o : Outcome Answer State). triggers among (eventOf (state m) x o) ≡ tells x (o .answer)) (sym e) (triggers-act x)
 
 -- ---- the loop
 
@@ -99,7 +105,7 @@ module _ (among : ℕ → Bool) (h end first e : ℕ) where
   unfolding followedFrom history firstFrom counted
   followed-end s cs n q = rw (q, add-zero) (go (ltb first end))
     where
-      go : (b : Bool) → stepsElse none (cond b (some first) none) h e ≡ cond b (bounded.InterruptsDisabled first) (bounded.Within h e (h + e + 1))
+      go : (b : Bool) → stepsAnswer none (cond b (some first) none) h e ≡ cond b (bounded.InterruptsDisabled first) (bounded.Within h e (h + e + 1))
       go true = refl
       go false = refl
 
@@ -115,8 +121,8 @@ module _ (among : ℕ → Bool) (h end first e : ℕ) where
         ≡ followedFrom among h end (n + 1) (firstDisabled first end n x (has (s .image) IEN)) (e + oneIf (triggers among (eventOf s x (outcome a t)))) (history t cs xs)
     unfolding followedFrom firstFrom counted
     followed-on o l =
-        rw (history-next next, o, add-assoc)
-        (ap (λ (i : Option ℕ). stepsElse (firstFrom (n + 1) otherStep (history t cs xs)) i h (e + (oneIf (triggers among (eventOf s x (outcome a t))) + triggersOf among (history t cs xs))))
+        rw (history-next next, o, add-assoc e (oneIf (triggers among (eventOf s x (outcome a t)))) (triggersOf among (history t cs xs)))
+        (ap (λ (i : Option ℕ). stepsAnswer (firstFrom (n + 1) otherStep (history t cs xs)) i h (e + (oneIf (triggers among (eventOf s x (outcome a t))) + triggersOf among (history t cs xs))))
         (go (ltb first end) (disabledStep (eventOf s x (outcome a t))) refl))
       where
         go : (b d : Bool) → ltb first end ≡ b

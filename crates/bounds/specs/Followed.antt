@@ -3,7 +3,7 @@
 use mathlib.Core.Path.{_≡_}
 use mathlib.Core.Bool.{Bool, true, false, cond, not, _&&_}
 use mathlib.Core.List.{List}
-use mathlib.Core.Option.{some}
+use mathlib.Core.Option.{Option, some, Option·getD, Option·map}
 use Prim.Native.Nat.{ℕ, _+_}
 use lib.Dec.{ltb}
 use Rattle.rules.specs.declared.Channel.{Channel}
@@ -14,28 +14,31 @@ use Rattle.rules.specs.declared.Step.the-variants as step
 use Rattle.rules.specs.declared.Effect.{Effect}
 use Rattle.rules.specs.declared.Effect.the-variants as effect
 use Rattle.rules.specs.declared.Answer.{Answer}
-use Rattle.rules.specs.declared.Answer.the-variants as answer
+use Rattle.rules.specs.declared.AnswerKind.{AnswerKind}
+use Rattle.rules.specs.declared.AnswerKind.the-variants as kind
 use Rattle.rules.specs.declared.Bounded.{Bounded}
 use Rattle.rules.specs.declared.Bounded.the-variants as bounded
 use Rattle.bounds.specs.declared.Premises.{Premises}
 use Rattle.bounds.specs.declared.Premises.the-variants as premises
 use Rattle.rules.specs.Image.{Image}
 use Rattle.rules.specs.Channels.{mostRecords}
+use Rattle.rules.specs.Outcomes.{state, kindOf}
 use Rattle.rules.specs.Sources.{sources}
-use Rattle.rules.specs.Runs.{Event, isArbitration}
-use Rattle.rules.specs.Waiting.{rival, H, triggersOf}
-use Rattle.rules.specs.Bounds.{firstFrom, otherStep, disabledStep, stepsElse}
+use Rattle.rules.specs.Runs.{Event, history, isArbitration}
+use Rattle.rules.specs.Demand3.{rival, H, triggersOf}
+use Rattle.rules.specs.Encodings.{stepsOf}
+use Rattle.rules.specs.Bounds.{firstFrom, otherStep, disabledStep, bounding, boundIn, acceptedBound}
 
 -- ---- the premises on the start
 
--- what is answered by whether some premises hold: b, or the first that fails
+-- what is answered by whether some premises hold: what comes next, or the first that fails
 abbrev pub answeredBy : Premises → Bounded → Bounded
-answeredBy premises.Hold b = b
-answeredBy (premises.Fail q) b = q
+answeredBy premises.Hold next = next
+answeredBy (premises.Fail failed) next = failed
 
--- a choice of the first premise that fails or else of b (Bounds `sourceElse`, `startElse`) is decided
+-- the answer of the first premise that fails, or else of what comes next (Bounds `sourcePremises`, `startPremises`), is decided
 abbrev pub Decides : (Bounded → Bounded) → Premises → Type 0
-Decides f p = (b : Bounded) → f b ≡ answeredBy p b
+Decides answers p = (next : Bounded) → answers next ≡ answeredBy p next
 
 -- ---- the source that a step triggered
 
@@ -45,19 +48,16 @@ selected effect.NotSelected = false
 selected effect.Raised = true
 selected effect.Merged = true
 
--- the answer of a trigger that selected a source's bit
+-- of a trigger that selected a source's bit
+abbrev pub selectedKind : AnswerKind → Bool
+selectedKind kind.Plain = false
+selectedKind (kind.Triggered maskable) = selected maskable
+selectedKind (kind.Acknowledged source) = false
+selectedKind (kind.Refused reason) = false
+
+-- the answer of such a trigger
 abbrev pub selectedIn : Answer → Bool
-selectedIn answer.NoStep = false
-selectedIn (answer.Byte b) = false
-selectedIn (answer.Written l) = false
-selectedIn (answer.Triggered e f) = selected e
-selectedIn answer.Nothing = false
-selectedIn answer.TopLevel = false
-selectedIn (answer.Interrupt s l v) = false
-selectedIn (answer.Transferred s e) = false
-selectedIn answer.Returned = false
-selectedIn answer.Reset = false
-selectedIn (answer.Refused r) = false
+selectedIn answered = selectedKind (kindOf answered)
 
 -- past every source: external channels and records
 abbrev pub noSource : ℕ
@@ -80,9 +80,9 @@ targetOf step.Return = noSource
 targetOf step.Reset = noSource
 targetOf step.Unknown = noSource
 
--- by its answer, a step was a trigger of an unmasked source outranking s on the image m
+-- by its answer, a step was a trigger of an unmasked source outranking ours on the image m
 abbrev pub rivalTriggered : Image → List Channel → ℕ → Step → Answer → Bool
-rivalTriggered m cs s x a = selectedIn a && (ltb (targetOf x) (sources cs) && rival m cs s (targetOf x))
+rivalTriggered m cs ours x answered = selectedIn answered && (ltb (targetOf x) (sources cs) && rival m cs ours (targetOf x))
 
 -- ---- the first arbitration with interrupts disabled
 
@@ -92,11 +92,24 @@ firstDisabled first end i x enabled = cond (ltb first end) first (cond (isArbitr
 
 -- ---- the loop
 
--- H, E and the bound
+-- the bound, of a number E
 abbrev pub withinOf : Image → List Channel → ℕ → ℕ → Bounded
-withinOf m cs s e = bounded.Within (H m cs s) e (H m cs s + e + 1)
+withinOf m cs ours triggers = bounding (H m cs ours) triggers
 
--- what is answered of the events es from step n on, with e triggers before them, and `first` below `end` where an arbitration before had interrupts disabled
+-- what is answered of the steps of a list of words
+abbrev pub stepsBound : Image → List Channel → ℕ → List ℕ → Bounded
+stepsBound m cs ours words = boundIn m cs ours (history (state m) cs (stepsOf words))
+
+-- and with the premises on the start
+abbrev pub wordsBound : Image → List Channel → ℕ → List ℕ → Bounded
+wordsBound m cs ours words = acceptedBound (state m) cs ours (stepsOf words)
+
+-- by the indices of the first step of another kind and of the first arbitration with interrupts disabled, if there are such
+abbrev pub stepsAnswer : Option ℕ → Option ℕ → ℕ → ℕ → Bounded
+stepsAnswer other disabled outranking triggers =
+    Option·getD (Option·map bounded.OtherStep other) (Option·getD (Option·map bounded.InterruptsDisabled disabled) (bounding outranking triggers))
+
+-- of the events es from step n on, with some triggers before them, and `first` below `end` where an arbitration before had interrupts disabled
 unfoldable pub followedFrom : (ℕ → Bool) → ℕ → ℕ → ℕ → ℕ → ℕ → List Event → Bounded
-followedFrom among h end n first e es =
-    stepsElse (firstFrom n otherStep es) (cond (ltb first end) (some first) (firstFrom n disabledStep es)) h (e + triggersOf among es)
+followedFrom among outranking end n first triggers es =
+    stepsAnswer (firstFrom n otherStep es) (cond (ltb first end) (some first) (firstFrom n disabledStep es)) outranking (triggers + triggersOf among es)

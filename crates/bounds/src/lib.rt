@@ -34,15 +34,14 @@ ghost use mathlib.Core.Path.{_≡_};
 ghost use mathlib.Core.Bool.{true, not, _&&_};
 ghost use Prim.Native.Nat.{_<_, _≤_};
 ghost use lib.ListN.{length};
-ghost use Rattle.rules.specs.Image.{imageLength, state};
+ghost use Rattle.rules.specs.Image.{imageLength};
 ghost use Rattle.rules.specs.Channels.{listOk, listOf};
 ghost use Rattle.rules.specs.Outcomes.{isRefused};
-ghost use Rattle.rules.specs.Sources.{sources};
-ghost use Rattle.rules.specs.Steps.{stepsOf};
-ghost use Rattle.rules.specs.Runs.{history, oneIf};
-ghost use Rattle.rules.specs.Waiting.{isCall};
-ghost use Rattle.rules.specs.Bounds.{sourceElse, startElse, boundIn};
-ghost use Rattle.bounds.specs.Followed.{rivalTriggered, firstDisabled, withinOf, Decides};
+ghost use Rattle.rules.specs.Sources.{sources, AcceptedSource};
+ghost use Rattle.rules.specs.Runs.{oneIf};
+ghost use Rattle.rules.specs.Demand3.{isCall};
+ghost use Rattle.rules.specs.Bounds.{sourcePremises, startPremises};
+ghost use Rattle.bounds.specs.Followed.{rivalTriggered, firstDisabled, withinOf, stepsBound, wordsBound, Decides};
 
 // Whether a step was done that is no trigger, arbitration or return; a refused one is none.
 fn other_step(step: Step, a: Answer) -> bool
@@ -73,7 +72,7 @@ fn first_disabled(first: usize, end: usize, i: usize, step: Step, enabled: bool)
 // 1 where a step, by its answer, was a trigger of an unmasked source outranking ours on this image, else 0. A source that was triggered is there; that it is, is tested all the
 // same, since `is_rival` asks it and this function does not know where the answer comes from.
 pub fn rival_trigger(image: &[u8], all: Channels, ours: usize, step: Step, a: Answer) -> usize
-    requires { ⌜ (length (now image) ≡ imageLength) × (listOk (listOf all) ≡ true) × (ours < sources (listOf all)) ⌝ }
+    requires { ⌜ AcceptedSource (now image) (listOf all) ours ⌝ }
     ensures { λ n. ⌜ n ≡ oneIf (rivalTriggered (now (image .entry)) (listOf all) ours step a) ⌝ }
 {
     if selected_in(a) {
@@ -102,8 +101,8 @@ pub fn within(image: &[u8], all: Channels, ours: usize, triggers: usize) -> Boun
 
 // The premises on the steps, and the bound where they hold.
 fn followed(image: &[u8], all: Channels, ours: usize, words: &[u64]) -> Bounded
-    requires { ⌜ (length (now image) ≡ imageLength) × (listOk (listOf all) ≡ true) × (ours < sources (listOf all)) ⌝ }
-    ensures { λ b. ⌜ b ≡ boundIn (now (image .entry)) (listOf all) ours (history (state (now (image .entry))) (listOf all) (stepsOf (now (words .entry)))) ⌝ }
+    requires { ⌜ AcceptedSource (now image) (listOf all) ours ⌝ }
+    ensures { λ b. ⌜ b ≡ stepsBound (now (image .entry)) (listOf all) ours (now (words .entry)) ⌝ }
 {
     let mut copy = copy_of(image);
     let end = words.len();
@@ -135,8 +134,8 @@ pub enum Premises {
 
 // The premises on the source.
 fn source_premises(image: &[u8], all: Channels, ours: usize) -> Premises
-    requires { ⌜ (length (now image) ≡ imageLength) × (listOk (listOf all) ≡ true) × (ours < sources (listOf all)) ⌝ }
-    ensures { λ p. ⌜ Decides (sourceElse (now (image .entry)) (listOf all) ours) p ⌝ }
+    requires { ⌜ AcceptedSource (now image) (listOf all) ours ⌝ }
+    ensures { λ p. ⌜ Decides (sourcePremises (now (image .entry)) (listOf all) ours) p ⌝ }
 {
     if !is_pending(image, all, ours) {
         return Premises::Fail(Bounded::NotPending);
@@ -152,8 +151,8 @@ fn source_premises(image: &[u8], all: Channels, ours: usize) -> Premises
 
 // The premises on the start: on the image and the list, then on the source.
 pub fn start_premises(image: &[u8], all: Channels, source: u32) -> Premises
-    requires { ⌜ (length (now image) ≡ imageLength) × (listOk (listOf all) ≡ true) × (source < sources (listOf all)) ⌝ }
-    ensures { λ p. ⌜ Decides (startElse (now (image .entry)) (listOf all) source) p ⌝ }
+    requires { ⌜ AcceptedSource (now image) (listOf all) source ⌝ }
+    ensures { λ p. ⌜ Decides (startPremises (now (image .entry)) (listOf all) source) p ⌝ }
 {
     let cicr = image[CICR];
     if has_bit(cicr, IAM) {
@@ -173,8 +172,8 @@ pub fn start_premises(image: &[u8], all: Channels, source: u32) -> Premises
 
 // The premises on the start, then those on the steps.
 pub fn bound_accepted(image: &[u8], all: Channels, source: u32, words: &[u64]) -> Bounded
-    requires { ⌜ (length (now image) ≡ imageLength) × (listOk (listOf all) ≡ true) × (source < sources (listOf all)) ⌝ }
-    ensures { λ b. ⌜ b ≡ startElse (now (image .entry)) (listOf all) source (boundIn (now (image .entry)) (listOf all) source (history (state (now (image .entry))) (listOf all) (stepsOf (now (words .entry))))) ⌝ }
+    requires { ⌜ AcceptedSource (now image) (listOf all) source ⌝ }
+    ensures { λ b. ⌜ b ≡ wordsBound (now (image .entry)) (listOf all) source (now (words .entry)) ⌝ }
 {
     match start_premises(image, all, source) {
         Premises::Hold => followed(image, all, source as usize, words),

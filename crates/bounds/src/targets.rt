@@ -1,12 +1,14 @@
 // What a bound asks of a step and of its answer: whether it is one of demand 3's calls, and which source it triggered.
+use dispatch::kind_of;
 use rules::Answer;
+use rules::AnswerKind;
 use rules::EXTERNALS;
 use rules::Effect;
 use rules::MOST_RECORDS;
 use rules::Step;
 use rules::Trigger;
 ghost use mathlib.Core.Path.{_≡_};
-ghost use Rattle.rules.specs.Waiting.{isCall};
+ghost use Rattle.rules.specs.Demand3.{isCall};
 ghost use Rattle.bounds.specs.Followed.{selected, selectedIn, targetBy, targetOf};
 
 // Past every source.
@@ -42,25 +44,11 @@ fn is_selected(effect: Effect) -> bool
 pub(crate) fn selected_in(a: Answer) -> bool
     ensures { λ b. ⌜ b ≡ selectedIn a ⌝ }
 {
-    match a {
-        Answer::NoStep => false,
-        Answer::Byte(_) => false,
-        Answer::Written(_) => false,
-        Answer::Triggered(effect, _) => is_selected(effect),
-        Answer::Nothing => false,
-        Answer::TopLevel => false,
-        Answer::Interrupt {
-            source: _,
-            level: _,
-            vector: _,
-        } => false,
-        Answer::Transferred {
-            source: _,
-            ended: _,
-        } => false,
-        Answer::Returned => false,
-        Answer::Reset => false,
-        Answer::Refused(_) => false,
+    match kind_of(a) {
+        AnswerKind::Plain => false,
+        AnswerKind::Triggered(maskable) => is_selected(maskable),
+        AnswerKind::Acknowledged(_) => false,
+        AnswerKind::Refused(_) => false,
     }
 }
 

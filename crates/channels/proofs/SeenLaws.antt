@@ -12,14 +12,14 @@ use borrow.Author.Tests.{eq-eqb, ne-eqb, le-leb}
 use Rattle.bits.proofs.BitLaws.{bit-zero}
 use Rattle.rules.specs.declared.Channel.{Channel}
 use Rattle.rules.specs.declared.Channels.{Channels}
-use Rattle.rules.specs.declared.Places.{Places}
+use Rattle.channels.specs.declared.Places.{Places}
 use Rattle.rules.specs.Image.{has, put, MARK}
-use Rattle.rules.specs.Channels.{mostRecords, noChannel, placesOf, recordBytes, recordOk, recordsOk, member, distinct, allBytes, listOk}
+use Rattle.rules.specs.Channels.{mostRecords, noChannel, recordBytes, recordOk, recordsOk, member, distinct, allBytes, listOk}
 use Rattle.rules.proofs.Bools.{and-l, and-r}
 use Rattle.rules.proofs.ImageLaws.{Apart, put-length, has-put-same, has-put-other}
 use Rattle.rules.proofs.ChannelLaws.{registerByte, record-range}
 use Rattle.channels.proofs.RestLaws.{rest, rest-cons, rest-none}
-use Rattle.channels.specs.Seen.{seenBit, seenLength, unseen, seeing}
+use Rattle.channels.specs.Seen.{placesOf, Sees, SeesAll, seenBit, seenLength, unseen, seeing}
 
 -- ---- a byte that is seen
 
@@ -99,14 +99,10 @@ places-before c p ok e = rw e (at 0 (omega arith), at 1 (omega arith), at 2 (ome
     at : (q : ℕ) → q < 5 → registerByte c q < MARK
     at q h = omega (arith, record-range c ok q h)
 
--- byte x is seen: whether for the first time, b, and the set after it, t
-abbrev Sees : List ℕ → ℕ → Bool → List ℕ → Type 0
-Sees s x b t = (b ≡ not (has s (seenBit x))) × (t ≡ put s (seenBit x) true)
-
 -- the five places seen in order
 module _ (c : Channel) (p : Places) (s s1 s2 s3 s4 s5 : List ℕ) (idcr ivr dcpr dapr io : Bool) where
   pub sees-record : p ≡ placesOf c → Sees s (p .idcr) idcr s1 → Sees s1 (p .ivr) ivr s2 → Sees s2 (p .dcpr) dcpr s3 → Sees s3 (p .dapr) dapr s4
-      → Sees s4 (p .io) io s5 → ((idcr && ivr && dcpr && dapr && io) ≡ unseen s (recordBytes c)) × (s5 ≡ seeing s (recordBytes c))
+      → Sees s4 (p .io) io s5 → SeesAll s (recordBytes c) (idcr && ivr && dcpr && dapr && io) s5
   unfolding unseen seeing
   sees-record e p1 p2 p3 p4 p5 =
       (simp (p1 .0, p2 .0, p3 .0, p4 .0, p5 .0, p1 .1, p2 .1, p3 .1, p4 .1, e, and-true, and-assoc), simp (p5 .1, p4 .1, p3 .1, p2 .1, p1 .1, e))

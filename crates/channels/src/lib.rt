@@ -4,14 +4,13 @@ use bits::put_bit;
 use rules::Channel;
 use rules::Channels;
 use rules::MOST_RECORDS;
-use rules::Places;
 ghost use mathlib.Core.Path.{_≡_};
-ghost use mathlib.Core.Bool.{true, not};
+ghost use mathlib.Core.Bool.{true};
 ghost use Prim.Native.Nat.{_≤_, _<_};
 ghost use lib.ListN.{replicate};
-ghost use Rattle.rules.specs.Image.{pageByte, has, put, MARK};
-ghost use Rattle.rules.specs.Channels.{placesOf, recordBytes, recordOk, listOk, listOf};
-ghost use Rattle.channels.specs.Seen.{seenBit, seenLength, unseen, seeing};
+ghost use Rattle.rules.specs.Image.{pageByte, MARK};
+ghost use Rattle.rules.specs.Channels.{recordBytes, recordOk, listOk, listOf};
+ghost use Rattle.channels.specs.Seen.{placesOf, seenLength, Sees, SeesAll};
 
 // A bit for each byte of the image before the mark.
 const SEEN_LENGTH: usize = 158;
@@ -22,6 +21,15 @@ pub fn page_byte(page: u8, register: u8) -> usize
     ensures { λ i. ⌜ i ≡ pageByte page register ⌝ }
 {
     240 + 16 * (page as usize) + ((register - 240) as usize)
+}
+
+// The bytes of a record's five registers, by name.
+struct Places {
+    idcr: usize,
+    ivr: usize,
+    dcpr: usize,
+    dapr: usize,
+    io: usize,
 }
 
 // The bytes of a record's registers.
@@ -61,7 +69,7 @@ fn none_seen() -> [u8; SEEN_LENGTH]
 // Whether the byte is seen for the first time; from now on it has been seen.
 fn see(seen: &mut [u8; SEEN_LENGTH], byte: usize) -> bool
     requires { ⌜ byte < MARK ⌝ }
-    ensures { λ b. ⌜ (b ≡ not (has (now (seen .entry)) (seenBit byte))) × (now (seen .exit) ≡ put (now (seen .entry)) (seenBit byte) true) ⌝ }
+    ensures { λ b. ⌜ Sees (now (seen .entry)) byte b (now (seen .exit)) ⌝ }
 {
     let i = byte / 8;
     let k = (byte % 8) as u8;
@@ -73,7 +81,7 @@ fn see(seen: &mut [u8; SEEN_LENGTH], byte: usize) -> bool
 // Whether each of a record's five bytes is seen for the first time.
 fn see_record(seen: &mut [u8; SEEN_LENGTH], c: Channel) -> bool
     requires { ⌜ recordOk c ≡ true ⌝ }
-    ensures { λ b. ⌜ (b ≡ unseen (now (seen .entry)) (recordBytes c)) × (now (seen .exit) ≡ seeing (now (seen .entry)) (recordBytes c)) ⌝ }
+    ensures { λ b. ⌜ SeesAll (now (seen .entry)) (recordBytes c) b (now (seen .exit)) ⌝ }
 {
     let p = places_of(c);
     let idcr = see(seen, p.idcr);

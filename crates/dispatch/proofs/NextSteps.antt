@@ -9,11 +9,12 @@ use lib.Seq.{drop-cons}
 use Rattle.rules.specs.declared.Channel.{Channel}
 use Rattle.rules.specs.declared.Step.{Step}
 use Rattle.rules.specs.declared.Answer.{Answer}
-use Rattle.rules.specs.Image.{State, imageLength}
+use Rattle.rules.specs.Image.{imageLength}
 use Rattle.rules.specs.Channels.{listOk}
-use Rattle.rules.specs.Outcomes.{outcome}
-use Rattle.rules.specs.Steps.{actOf, stepOf, decodeOf, stepsOf}
+use Rattle.rules.specs.Outcomes.{State, outcome}
+use Rattle.rules.specs.Steps.{actOf, stepOf}
 use Rattle.rules.specs.Runs.{eventOf, history}
+use Rattle.rules.specs.Encodings.{decodeOf, stepsOf}
 use Rattle.rules.proofs.Refusals.{accepted-acts}
 
 -- after all of the words there is none

@@ -2,23 +2,21 @@
 mod words;
 
 use rules::Answer;
+use rules::AnswerKind;
 use rules::Channels;
 use rules::Refusal;
 use rules::Step;
 use rules::Verdict;
 pub use words::decode;
 ghost use mathlib.Core.Path.{_≡_};
-ghost use mathlib.Core.Bool.{true};
-ghost use lib.ListN.{length};
-ghost use Rattle.rules.specs.Image.{imageLength, state};
-ghost use Rattle.rules.specs.Channels.{listOk, listOf};
-ghost use Rattle.rules.specs.Outcomes.{outcome, verdictOf};
+ghost use Rattle.rules.specs.Channels.{listOf, Accepted};
+ghost use Rattle.rules.specs.Outcomes.{state, outcome, kindOf, verdictOf, acknowledges};
 ghost use Rattle.rules.specs.Steps.{actOf};
-ghost use Rattle.rules.specs.Runs.{isArbitration, oneIf, acknowledges};
+ghost use Rattle.rules.specs.Runs.{isArbitration, oneIf};
 
 // One step.
 pub fn act(image: &mut [u8], all: Channels, step: Step) -> Answer
-    requires { ⌜ (length (now image) ≡ imageLength) × (listOk (listOf all) ≡ true) ⌝ }
+    requires { ⌜ Accepted (now image) (listOf all) ⌝ }
     ensures { λ a. ⌜ outcome a (state (now (image .exit))) ≡ actOf (state (now (image .entry))) (listOf all) step ⌝ }
 {
     match step {
@@ -32,29 +30,41 @@ pub fn act(image: &mut [u8], all: Channels, step: Step) -> Answer
     }
 }
 
+// What is asked of an answer, by one look at all of them.
+pub fn kind_of(a: Answer) -> AnswerKind
+    ensures { λ k. ⌜ k ≡ kindOf a ⌝ }
+{
+    match a {
+        Answer::NoStep => AnswerKind::Plain,
+        Answer::Byte(_) => AnswerKind::Plain,
+        Answer::Written(_) => AnswerKind::Plain,
+        Answer::Triggered(maskable, _) => AnswerKind::Triggered(maskable),
+        Answer::Nothing => AnswerKind::Plain,
+        Answer::TopLevel => AnswerKind::Plain,
+        Answer::Interrupt {
+            source,
+            level: _,
+            vector: _,
+        } => AnswerKind::Acknowledged(source),
+        Answer::Transferred {
+            source: _,
+            ended: _,
+        } => AnswerKind::Plain,
+        Answer::Returned => AnswerKind::Plain,
+        Answer::Reset => AnswerKind::Plain,
+        Answer::Refused(r) => AnswerKind::Refused(r),
+    }
+}
+
 // Whether an answer is a refusal, and which.
 pub fn verdict_of(a: Answer) -> Verdict
     ensures { λ v. ⌜ v ≡ verdictOf a ⌝ }
 {
-    match a {
-        Answer::NoStep => Verdict::Accepted,
-        Answer::Byte(_) => Verdict::Accepted,
-        Answer::Written(_) => Verdict::Accepted,
-        Answer::Triggered(_, _) => Verdict::Accepted,
-        Answer::Nothing => Verdict::Accepted,
-        Answer::TopLevel => Verdict::Accepted,
-        Answer::Interrupt {
-            source: _,
-            level: _,
-            vector: _,
-        } => Verdict::Accepted,
-        Answer::Transferred {
-            source: _,
-            ended: _,
-        } => Verdict::Accepted,
-        Answer::Returned => Verdict::Accepted,
-        Answer::Reset => Verdict::Accepted,
-        Answer::Refused(r) => Verdict::Refused(r),
+    match kind_of(a) {
+        AnswerKind::Plain => Verdict::Accepted,
+        AnswerKind::Triggered(_) => Verdict::Accepted,
+        AnswerKind::Acknowledged(_) => Verdict::Accepted,
+        AnswerKind::Refused(r) => Verdict::Refused(r),
     }
 }
 
@@ -87,24 +97,10 @@ pub fn arbitrations(step: Step) -> usize
 pub fn acknowledged(a: Answer, source: u32) -> bool
     ensures { λ b. ⌜ b ≡ acknowledges source a ⌝ }
 {
-    match a {
-        Answer::NoStep => false,
-        Answer::Byte(_) => false,
-        Answer::Written(_) => false,
-        Answer::Triggered(_, _) => false,
-        Answer::Nothing => false,
-        Answer::TopLevel => false,
-        Answer::Interrupt {
-            source: k,
-            level: _,
-            vector: _,
-        } => (k as u32) == source,
-        Answer::Transferred {
-            source: _,
-            ended: _,
-        } => false,
-        Answer::Returned => false,
-        Answer::Reset => false,
-        Answer::Refused(_) => false,
+    match kind_of(a) {
+        AnswerKind::Plain => false,
+        AnswerKind::Triggered(_) => false,
+        AnswerKind::Acknowledged(k) => (k as u32) == source,
+        AnswerKind::Refused(_) => false,
     }
 }

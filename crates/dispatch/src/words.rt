@@ -2,7 +2,7 @@
 use rules::Step;
 use rules::Trigger;
 ghost use mathlib.Core.Path.{_≡_};
-ghost use Rattle.rules.specs.Steps.{triggerBy, decodeOf};
+ghost use Rattle.rules.specs.Encodings.{triggerBy, decodeOf};
 
 // The trigger of a kind: 0 pin edge, 1 watchdog, 2 NMI edge, 3 channel request.
 fn trigger_by(kind: u64, first: u32, second: u8) -> Trigger

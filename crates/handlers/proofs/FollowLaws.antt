@@ -3,7 +3,7 @@ use mathlib.Core.Path.{_≡_, refl, sym, ap, _∙_}
 use mathlib.Core.Logic.{_≢_}
 use mathlib.Core.Bool.{Bool, true, false, false≢true, cond, not, _&&_}
 use mathlib.Core.List.{List, []}
-use mathlib.Core.Option.{Option, none, some}
+use mathlib.Core.Option.{Option, none, some, Option·getD}
 use Prim.Native.Nat.{ℕ, _+_, _≤_, _<_}
 use native.Mathlib.Nat.{add-zero, zero-add}
 use native.Mathlib.Omega.{arith}
@@ -16,16 +16,17 @@ use Rattle.rules.specs.declared.Step.the-variants as step
 use Rattle.rules.specs.declared.Answer.{Answer}
 use Rattle.rules.specs.declared.Bounded.{Bounded}
 use Rattle.rules.specs.declared.Bounded.the-variants as bounded
-use Rattle.rules.specs.Image.{Image, imageLength, State, state, has, CICR, IEN}
+use Rattle.rules.specs.Image.{Image, imageLength, has, CICR, IEN}
 use Rattle.rules.specs.Channels.{mostRecords, listOk}
-use Rattle.rules.specs.Sources.{sources}
-use Rattle.rules.specs.Outcomes.{Outcome, outcome, isRefused}
+use Rattle.rules.specs.Outcomes.{State, state, Outcome, outcome, isRefused}
 use Rattle.rules.specs.Registers.{writeOf}
+use Rattle.rules.specs.Sources.{sources}
 use Rattle.rules.specs.Steps.{actOf}
 use Rattle.rules.specs.Runs.{Event, eventOf, history, until, oneIf, counted, isArbitration, eventAcknowledges}
-use Rattle.rules.specs.Waiting.{rival, H, selectedBy, triggers}
+use Rattle.rules.specs.Demand3.{rival, H, selectedBy, triggers}
 use Rattle.rules.specs.Handlers.{isWrite, raised, raisedOf, upTo}
-use Rattle.rules.specs.HandlerBounds.{changes, bases, firstChanged, brokenStep, brokenBy, firstBroken, brokenElse, handlerBoundIn}
+use Rattle.rules.specs.Bounds.{bounding}
+use Rattle.rules.specs.HandlerBounds.{changes, bases, firstChanged, brokenStep, brokenBy, firstBroken, handlerBoundIn}
 use Rattle.rules.proofs.Bools.{impossible, and-l, and-r}
 use Rattle.rules.proofs.HandlerWrites.{file-leaves}
 use Rattle.rules.proofs.ChangeLaws.{leaves-unchanged, none-first}
@@ -113,9 +114,9 @@ module _ (start before after : Image) (cs : List Channel) (s : ℕ) (x : Step) (
       go (step.Write r v) w e =
           let low = ltb-true r 240 (and-l (ltb r 240) (not (eqb r CICR)) w) in
           let other : r ≢ CICR = λ q. false≢true (sym (ap not (eq-eqb r CICR q)) ∙ and-r (ltb r 240) (not (eqb r CICR)) w) in
-          let same : after ≡ writeOf before cs r v .image = ap (λ (o : Outcome). o .state .image) e in
-          let none-changed = none-first (changes cs s before (writeOf before cs r v .image)) i
-          (leaves-unchanged cs s before (writeOf before cs r v .image) (file-leaves before cs s long ok there r v low other)) bases in
+          let same : after ≡ writeOf before cs r v .left = ap (λ (o : Outcome Answer State). o .left .image) e in
+          let none-changed = none-first (changes cs s before (writeOf before cs r v .left)) i
+          (leaves-unchanged cs s before (writeOf before cs r v .left) (file-leaves before cs s long ok there r v low other)) bases in
           record {
             did = e;
             breaks = rw (same, none-changed) (either (isRefused a));
@@ -156,14 +157,14 @@ follows-few start before after cs s x i f ok q = omega (arith, q .counts, few x 
     at-most-one : (x : Step) → isWrite x ≡ false → more cs among (eventOf (state before) x (outcome (f .answer) (state after))) ≤ mostRecords
     at-most-one x w = rw w (omega (arith, one-le (triggers among (eventOf (state before) x (outcome (f .answer) (state after))))))
 
-    written : (r v : ℕ) (refused : Bool) → oneIf (not refused && false) + cond (true && not refused) (raised cs among before (writeOf before cs r v .image)) 0 ≤ mostRecords
+    written : (r v : ℕ) (refused : Bool) → oneIf (not refused && false) + cond (true && not refused) (raised cs among before (writeOf before cs r v .left)) 0 ≤ mostRecords
     written r v true = omega arith
     written r v false = omega (arith, raised-few before cs ok among r v)
 
     few : (x : Step) → outcome (f .answer) (state after) ≡ actOf (state before) cs x → more cs among (eventOf (state before) x (outcome (f .answer) (state after))) ≤ mostRecords
     few (step.Read r) e = at-most-one (step.Read r) refl
     few (step.Write r v) e =
-        let same : after ≡ writeOf before cs r v .image = ap (λ (o : Outcome). o .state .image) e in
+        let same : after ≡ writeOf before cs r v .left = ap (λ (o : Outcome Answer State). o .left .image) e in
         rw same (written r v (isRefused (f .answer)))
     few (step.Trigger t) e = at-most-one (step.Trigger t) refl
     few step.Arbitrate e = at-most-one step.Arbitrate refl
@@ -213,4 +214,4 @@ module _ (cs : List Channel) (source : ℕ) (among : ℕ → Bool) (h e : ℕ) w
           → followedFrom cs source among h n e (upTo source (history s cs ys))
           ≡ followedFrom cs source among h (n + 1) (e + more cs among event) (upTo source (history t cs xs))
       unfolding followedFrom until firstBroken counted raisedOf
-      followed-on k = rw (history-next next, k, unbroken) (ap (brokenElse (firstBroken cs source (n + 1) (upTo source (history t cs xs))) h) (omega arith))
+      followed-on k = rw (history-next next, k, unbroken) (ap (λ (e : ℕ). Option·getD (firstBroken cs source (n + 1) (upTo source (history t cs xs))) (bounding h e)) (omega arith))

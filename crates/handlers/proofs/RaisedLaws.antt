@@ -18,7 +18,7 @@ use Rattle.rules.specs.Channels.{mostRecords, listOk}
 use Rattle.rules.specs.Registers.{placeOf, storedByte, writeAt, writeOf}
 use Rattle.rules.specs.Sources.{sources, pendingBit, pending}
 use Rattle.rules.specs.Runs.{oneIf}
-use Rattle.rules.specs.Waiting.{countBelow}
+use Rattle.rules.specs.Demand3.{countBelow}
 use Rattle.rules.specs.Handlers.{raises, raised}
 use Rattle.rules.proofs.Bools.{true-or}
 use Rattle.rules.proofs.Counting.{count-le, one-le}
@@ -62,14 +62,14 @@ module _ (m : Image) (cs : List Channel) (ok : listOk cs ≡ true) (among : ℕ 
   unfolding pending
   apart k i new d = rw (getD-set-other m i (pendingBit cs k .byte) new 0 d) (stays (has m (pendingBit cs k)) (among k))
 
-  pub raised-few : (r v : ℕ) → raised cs among m (writeOf m cs r v .image) ≤ mostRecords
+  pub raised-few : (r v : ℕ) → raised cs among m (writeOf m cs r v .left) ≤ mostRecords
   unfolding writeOf writeAt raised sources
   raised-few r v = at-place (placeOf m cs r)
     where
       count : Image → ℕ
       count m' = countBelow (8 + length cs) (raises cs among m m')
 
-      at-place : (q : Place) → count (writeAt m q v .image) ≤ mostRecords
+      at-place : (q : Place) → count (writeAt m q v .left) ≤ mostRecords
       at-place Unmodelled = omega (arith, below-only _ 0 (8 + length cs) (λ k g l. stays (pending m cs k) (among k)))
       at-place (At i e) = go (ℕ-discrete EIPR i)
         where
@@ -83,7 +83,7 @@ module _ (m : Image) (cs : List Channel) (ok : listOk cs ≡ true) (among : ℕ 
               omega (arith, list-short cs ok, above-only _ 8 (8 + length cs) (λ k h. apart k i new (λ e. d (ap (λ (b : Bit). b .byte) (sym (pending-external cs k h)) ∙ e))))
 
   -- none by a write of R0 to R239, which have no pending bit
-  pub raised-none : (r v : ℕ) → r < 240 → raised cs among m (writeOf m cs r v .image) ≡ 0
+  pub raised-none : (r v : ℕ) → r < 240 → raised cs among m (writeOf m cs r v .left) ≡ 0
   unfolding writeOf writeAt raised
   raised-none r v h =
       let e : ℕ = cond (eqb r PPR) 0xfc 0xff in

@@ -2,7 +2,7 @@
 use mathlib.Core.Path.{_≡_}
 use mathlib.Core.Bool.{Bool, true, false, cond, not, _&&_}
 use mathlib.Core.List.{List}
-use mathlib.Core.Option.{Option, none, some}
+use mathlib.Core.Option.{Option, none, some, Option·getD}
 use Prim.Native.Nat.{ℕ, _+_}
 use lib.Dec.{eqb, ltb}
 use Rattle.rules.specs.declared.Channel.{Channel}
@@ -13,14 +13,16 @@ use Rattle.rules.specs.declared.Basis.{Basis}
 use Rattle.rules.specs.declared.Basis.the-variants as basis
 use Rattle.rules.specs.declared.Bounded.{Bounded}
 use Rattle.rules.specs.declared.Bounded.the-variants as bounded
-use Rattle.rules.specs.Image.{Image, state, CICR}
-use Rattle.rules.specs.Sources.{unmasked, dmaEnabled, level}
-use Rattle.rules.specs.Outcomes.{outcome, isRefused}
+use Rattle.rules.specs.Image.{Image, CICR}
+use Rattle.rules.specs.Outcomes.{state, outcome, isRefused}
+use Rattle.rules.specs.Sources.{sources, unmasked, dmaEnabled, level}
 use Rattle.rules.specs.Steps.{actOf}
-use Rattle.rules.specs.Runs.{Event, eventOf, oneIf}
-use Rattle.rules.specs.Waiting.{rival, triggers, triggersOf}
-use Rattle.rules.specs.Handlers.{raisedBy, raisedOf}
-use Rattle.rules.specs.HandlerBounds.{differ, brokenBy, firstBroken, brokenElse}
+use Rattle.rules.specs.Runs.{Event, eventOf, history, oneIf}
+use Rattle.rules.specs.Demand3.{rival, triggers, triggersOf}
+use Rattle.rules.specs.Handlers.{raises, raised, raisedBy, raisedOf, upTo}
+use Rattle.rules.specs.Bounds.{anyBelow, bounding}
+use Rattle.rules.specs.Encodings.{stepsOf}
+use Rattle.rules.specs.HandlerBounds.{differ, changes, bases, firstChanged, brokenBy, firstBroken, handlerBoundIn, acceptedHandlerBound}
 use Rattle.bounds.specs.declared.Premises.{Premises}
 use Rattle.bounds.specs.declared.Premises.the-variants as premises
 use Rattle.handlers.specs.declared.Seen.{Seen}
@@ -29,13 +31,25 @@ use Rattle.handlers.specs.declared.Seen.{Seen}
 
 -- of one source
 abbrev pub sourceChanges : List Channel → Image → Image → Basis → ℕ → Bool
-sourceChanges cs before after basis.Pending k = false
-sourceChanges cs before after basis.Mode k = false
-sourceChanges cs before after basis.CurrentLevel k = false
-sourceChanges cs before after basis.TopLevel k = false
-sourceChanges cs before after basis.Mask k = differ (unmasked after cs k) (unmasked before cs k)
-sourceChanges cs before after basis.DmaEnable k = differ (dmaEnabled after cs k) (dmaEnabled before cs k)
-sourceChanges cs before after basis.Level k = not (eqb (level after cs k) (level before cs k))
+sourceChanges cs before after basis.Pending source = false
+sourceChanges cs before after basis.Mode source = false
+sourceChanges cs before after basis.CurrentLevel source = false
+sourceChanges cs before after basis.TopLevel source = false
+sourceChanges cs before after basis.Mask source = differ (unmasked after cs source) (unmasked before cs source)
+sourceChanges cs before after basis.DmaEnable source = differ (dmaEnabled after cs source) (dmaEnabled before cs source)
+sourceChanges cs before after basis.Level source = not (eqb (level after cs source) (level before cs source))
+
+-- of some source
+abbrev pub anySourceChanges : List Channel → Image → Image → Basis → Bool
+anySourceChanges cs before after changed = anyBelow (sources cs) (sourceChanges cs before after changed)
+
+-- a write raises an unmasked source that outranks ours on the image at the start
+abbrev pub raisesRival : Image → List Channel → ℕ → Image → Image → ℕ → Bool
+raisesRival start cs ours before after source = raises cs (rival start cs ours) before after source
+
+-- how many it raises
+abbrev pub raisedRivals : Image → List Channel → ℕ → Image → Image → ℕ
+raisedRivals start cs ours before after = raised cs (rival start cs ours) before after
 
 -- ---- what a step breaks
 
@@ -43,6 +57,10 @@ sourceChanges cs before after basis.Level k = not (eqb (level after cs k) (level
 abbrev pub broken : Option Bounded → Premises
 broken none = premises.Hold
 broken (some b) = premises.Fail b
+
+-- of a write, by the first of what it changed
+abbrev pub brokenWrite : List Channel → ℕ → Image → Image → ℕ → Premises
+brokenWrite cs ours before after index = broken (firstChanged (changes cs ours before after) bases index)
 
 -- a step of a kind that may stand in the list, a write where it leaves what the bound rests on
 abbrev pub mayStand : Step → Bool
@@ -75,14 +93,23 @@ brokenCall x a disabled i =
 abbrev pub more : List Channel → (ℕ → Bool) → Event → ℕ
 more cs among e = oneIf (triggers among e) + raisedBy cs among e
 
--- the step x at index i, from the image `before` in a list from `start`: done, with what it breaks, and how many of the rivals at the start it triggers or raises
-pub record Follows (start before : Image) (cs : List Channel) (s : ℕ) (x : Step) (i : ℕ) (f : Seen) (after : Image) : Type 0 where
+-- the step x at this index, from the image `before` in a list from `start`: done, with what it breaks, and how many of the rivals at the start it triggers or raises
+pub record Follows (start before : Image) (cs : List Channel) (ours : ℕ) (x : Step) (index : ℕ) (f : Seen) (after : Image) : Type 0 where
   pub did : outcome (f .answer) (state after) ≡ actOf (state before) cs x
-  pub breaks : f .broken ≡ broken (brokenBy cs s (eventOf (state before) x (outcome (f .answer) (state after))) i)
-  pub counts : f .more ≡ more cs (rival start cs s) (eventOf (state before) x (outcome (f .answer) (state after)))
+  pub breaks : f .broken ≡ broken (brokenBy cs ours (eventOf (state before) x (outcome (f .answer) (state after))) index)
+  pub counts : f .more ≡ more cs (rival start cs ours) (eventOf (state before) x (outcome (f .answer) (state after)))
 
 -- ---- the loop
 
--- what is answered of the events es from step n on, where those before them triggered or raised e of the set
+-- what is answered of the events es from step n on, where those before them triggered or raised so many of the set
 unfoldable pub followedFrom : List Channel → ℕ → (ℕ → Bool) → ℕ → ℕ → ℕ → List Event → Bounded
-followedFrom cs s among h n e es = brokenElse (firstBroken cs s n es) h (e + (triggersOf among es + raisedOf cs among es))
+followedFrom cs ours among outranking n counted es =
+    Option·getD (firstBroken cs ours n es) (bounding outranking (counted + (triggersOf among es + raisedOf cs among es)))
+
+-- what is answered of the steps of a list of words until ours is acknowledged
+abbrev pub stepsBound : Image → List Channel → ℕ → List ℕ → Bounded
+stepsBound m cs ours words = handlerBoundIn m cs ours (upTo ours (history (state m) cs (stepsOf words)))
+
+-- and with the premises on the start
+abbrev pub wordsBound : Image → List Channel → ℕ → List ℕ → Bounded
+wordsBound m cs ours words = acceptedHandlerBound (state m) cs ours (stepsOf words)

@@ -16,18 +16,15 @@ use sources::is_rival;
 use sources::is_unmasked;
 use sources::level_of;
 ghost use mathlib.Core.Path.{_≡_};
-ghost use mathlib.Core.Bool.{true, not, _&&_};
+ghost use mathlib.Core.Bool.{true};
 ghost use Prim.Native.Nat.{_<_};
 ghost use lib.ListN.{length, getD};
 ghost use Rattle.rules.specs.Image.{imageLength};
 ghost use Rattle.rules.specs.Channels.{listOk, listOf};
-ghost use Rattle.rules.specs.Sources.{sources, pending};
+ghost use Rattle.rules.specs.Sources.{sources};
 ghost use Rattle.rules.specs.Runs.{oneIf};
-ghost use Rattle.rules.specs.Waiting.{rival};
-ghost use Rattle.rules.specs.Handlers.{raised};
-ghost use Rattle.rules.specs.Bounds.{anyBelow};
-ghost use Rattle.rules.specs.HandlerBounds.{differ, changes, bases, firstChanged};
-ghost use Rattle.handlers.specs.Handled.{sourceChanges, broken};
+ghost use Rattle.rules.specs.HandlerBounds.{differ, changes, bases};
+ghost use Rattle.handlers.specs.Handled.{sourceChanges, anySourceChanges, brokenWrite, raisesRival, raisedRivals};
 
 // How many things the bound rests on.
 const BASES: usize = 7;
@@ -61,7 +58,7 @@ fn source_changed(before: &[u8], after: &[u8], all: Channels, basis: Basis, k: u
 // Whether some source has.
 fn any_changed(before: &[u8], after: &[u8], all: Channels, basis: Basis) -> bool
     requires { ⌜ (length (now before) ≡ imageLength) × (length (now after) ≡ imageLength) × (listOk (listOf all) ≡ true) ⌝ }
-    ensures { λ c. ⌜ c ≡ anyBelow (sources (listOf all)) (sourceChanges (listOf all) (now (before .entry)) (now (after .entry)) basis) ⌝ }
+    ensures { λ c. ⌜ c ≡ anySourceChanges (listOf all) (now (before .entry)) (now (after .entry)) basis ⌝ }
 {
     let mut k: usize = 0;
     while k < EXTERNALS + all.count {
@@ -117,7 +114,7 @@ pub(crate) fn first_changed(
     index: usize,
 ) -> Premises
     requires { ⌜ (length (now before) ≡ imageLength) × (length (now after) ≡ imageLength) × (listOk (listOf all) ≡ true) × (ours < sources (listOf all)) ⌝ }
-    ensures { λ b. ⌜ b ≡ broken (firstChanged (changes (listOf all) ours (now (before .entry)) (now (after .entry))) bases index) ⌝ }
+    ensures { λ b. ⌜ b ≡ brokenWrite (listOf all) ours (now (before .entry)) (now (after .entry)) index ⌝ }
 {
     let mut k: usize = 0;
     while k < BASES {
@@ -140,7 +137,7 @@ fn raised_rival(
     k: usize,
 ) -> usize
     requires { ⌜ (length (now start) ≡ imageLength) × (length (now before) ≡ imageLength) × (length (now after) ≡ imageLength) × (listOk (listOf all) ≡ true) × (ours < sources (listOf all)) × (k < sources (listOf all)) ⌝ }
-    ensures { λ n. ⌜ n ≡ oneIf (not (pending (now (before .entry)) (listOf all) k) && pending (now (after .entry)) (listOf all) k && rival (now (start .entry)) (listOf all) ours k) ⌝ }
+    ensures { λ n. ⌜ n ≡ oneIf (raisesRival (now (start .entry)) (listOf all) ours (now (before .entry)) (now (after .entry)) k) ⌝ }
 {
     if is_pending(before, all, k) {
         return 0;
@@ -162,7 +159,7 @@ pub(crate) fn raised_rivals(
     ours: usize,
 ) -> usize
     requires { ⌜ (length (now start) ≡ imageLength) × (length (now before) ≡ imageLength) × (length (now after) ≡ imageLength) × (listOk (listOf all) ≡ true) × (ours < sources (listOf all)) ⌝ }
-    ensures { λ n. ⌜ n ≡ raised (listOf all) (rival (now (start .entry)) (listOf all) ours) (now (before .entry)) (now (after .entry)) ⌝ }
+    ensures { λ n. ⌜ n ≡ raisedRivals (now (start .entry)) (listOf all) ours (now (before .entry)) (now (after .entry)) ⌝ }
 {
     let mut n: usize = 0;
     let mut k: usize = 0;

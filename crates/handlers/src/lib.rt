@@ -26,15 +26,11 @@ ghost use mathlib.Core.Path.{_≡_};
 ghost use mathlib.Core.Bool.{true};
 ghost use Prim.Native.Nat.{_<_};
 ghost use lib.ListN.{length};
-ghost use Rattle.rules.specs.Image.{imageLength, state};
+ghost use Rattle.rules.specs.Image.{imageLength};
 ghost use Rattle.rules.specs.Channels.{listOk, listOf};
-ghost use Rattle.rules.specs.Sources.{sources};
-ghost use Rattle.rules.specs.Steps.{stepsOf};
-ghost use Rattle.rules.specs.Runs.{history};
-ghost use Rattle.rules.specs.Handlers.{isWrite, upTo};
-ghost use Rattle.rules.specs.Bounds.{startElse};
-ghost use Rattle.rules.specs.HandlerBounds.{handlerBoundIn};
-ghost use Rattle.handlers.specs.Handled.{mayStand, fileWrite, brokenCall, Follows};
+ghost use Rattle.rules.specs.Sources.{sources, AcceptedSource};
+ghost use Rattle.rules.specs.Handlers.{isWrite};
+ghost use Rattle.handlers.specs.Handled.{mayStand, fileWrite, brokenCall, stepsBound, wordsBound, Follows};
 
 // What a step that was followed answered, whether the premises hold of it, and how many unmasked sources outranking ours it triggered or made pending by a
 // write.
@@ -175,8 +171,8 @@ fn follow(
 
 // The premises on the steps until ours is acknowledged, and the bound where they hold.
 fn followed(image: &[u8], all: Channels, source: u32, words: &[u64]) -> Bounded
-    requires { ⌜ (length (now image) ≡ imageLength) × (listOk (listOf all) ≡ true) × (source < sources (listOf all)) ⌝ }
-    ensures { λ b. ⌜ b ≡ handlerBoundIn (now (image .entry)) (listOf all) source (upTo source (history (state (now (image .entry))) (listOf all) (stepsOf (now (words .entry))))) ⌝ }
+    requires { ⌜ AcceptedSource (now image) (listOf all) source ⌝ }
+    ensures { λ b. ⌜ b ≡ stepsBound (now (image .entry)) (listOf all) source (now (words .entry)) ⌝ }
 {
     let ours = source as usize;
     let mut copy = copy_of(image);
@@ -204,8 +200,8 @@ fn followed(image: &[u8], all: Channels, source: u32, words: &[u64]) -> Bounded
 
 // The premises on the start, then those on the steps.
 pub fn handler_bound_accepted(image: &[u8], all: Channels, source: u32, words: &[u64]) -> Bounded
-    requires { ⌜ (length (now image) ≡ imageLength) × (listOk (listOf all) ≡ true) × (source < sources (listOf all)) ⌝ }
-    ensures { λ b. ⌜ b ≡ startElse (now (image .entry)) (listOf all) source (handlerBoundIn (now (image .entry)) (listOf all) source (upTo source (history (state (now (image .entry))) (listOf all) (stepsOf (now (words .entry)))))) ⌝ }
+    requires { ⌜ AcceptedSource (now image) (listOf all) source ⌝ }
+    ensures { λ b. ⌜ b ≡ wordsBound (now (image .entry)) (listOf all) source (now (words .entry)) ⌝ }
 {
     match start_premises(image, all, source) {
         Premises::Hold => followed(image, all, source, words),

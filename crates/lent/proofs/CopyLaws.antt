@@ -12,7 +12,8 @@ use lib.Seq.{take-suc, take-suc-set, take-length}
 use borrow.Author.Tests.{leb-true, leb-false, le-leb, lt-leb, lt-ltb, le-ltb, ne-eqb}
 use Rattle.rules.specs.declared.Channel.{Channel}
 use Rattle.rules.specs.declared.Channels.{Channels}
-use Rattle.rules.specs.Channels.{mostRecords, noChannel, listOf, recordLength, listIn}
+use Rattle.rules.specs.Channels.{mostRecords, noChannel, listOf}
+use Rattle.rules.specs.Encodings.{recordLength, listIn}
 use Rattle.lent.specs.Copies.{capped, blankOf, putOf, copiedUpTo, copyOf}
 
 -- ---- the count

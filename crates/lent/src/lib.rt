@@ -6,7 +6,8 @@ use rules::RECORD_BYTES;
 ghost use mathlib.Core.Path.{_≡_};
 ghost use Prim.Native.Nat.{_+_, _*_, _≤_, _<_};
 ghost use lib.ListN.{length, drop};
-ghost use Rattle.rules.specs.Channels.{mostRecords, recordLength, recordIn, listIn};
+ghost use Rattle.rules.specs.Channels.{mostRecords};
+ghost use Rattle.rules.specs.Encodings.{recordLength, recordIn, listIn};
 ghost use Rattle.lent.specs.Copies.{blankOf, putOf, copyOf};
 
 // A list by value with nothing put yet. A count over twelve is kept as thirteen.

@@ -1,41 +1,72 @@
--- What the next step does to a run and to a wait report. Assumes nothing.
+-- A run and a wait report after some steps of theirs, and what the next step does to them. Assumes nothing.
 use mathlib.Core.Path.{_≡_, refl}
 use mathlib.Core.Bool.{Bool, true, false, cond, and-true, and-false}
 use mathlib.Core.List.{List, [], _∷_}
-use Prim.Native.Nat.{ℕ, _+_}
-use native.Mathlib.Nat.{add-zero, add-assoc}
+use Prim.Native.Nat.{ℕ, _+_, _<_}
+use native.Mathlib.Nat.{add-zero, zero-add, add-assoc}
+use lib.ListN.{length}
 use Rattle.rules.specs.declared.Channel.{Channel}
 use Rattle.rules.specs.declared.Step.{Step}
 use Rattle.rules.specs.declared.Answer.{Answer}
 use Rattle.rules.specs.declared.Answer.the-variants as answer
 use Rattle.rules.specs.declared.Refusal.{Refusal}
 use Rattle.rules.specs.declared.Verdict.the-variants as verdict
+use Rattle.rules.specs.declared.Ran.{Ran}
 use Rattle.rules.specs.declared.Ran.the-variants as ran
+use Rattle.rules.specs.declared.Waited.{Waited}
 use Rattle.rules.specs.declared.Waited.the-variants as waited
-use Rattle.rules.specs.Image.{State}
-use Rattle.rules.specs.Outcomes.{outcome, verdictOf}
-use Rattle.rules.specs.Runs.{Event, eventOf, history, stateAfter, oneIf, counted, until, runEvents, lastAnswer, runOutcome, runReport, acknowledges, isArbitration, waitEvents, waitOutcome, waitReport}
+use Rattle.rules.specs.Image.{imageLength}
+use Rattle.rules.specs.Channels.{listOk}
+use Rattle.rules.specs.Outcomes.{State, Outcome, outcome, refusedOr, verdictOf, acknowledges}
+use Rattle.rules.specs.Sources.{sources}
+use Rattle.rules.specs.Runs.{Event, eventOf, history, stateAfter, oneIf, counted, until, runEvents, lastAnswer, stepsDone, runAnswer, runOf, isArbitration, arbitrationsIn, waitEvents, waitAnswer, waitOf}
+use Rattle.rules.proofs.Refusals.{lent-accepted}
+use Rattle.rules.proofs.WaitLaws.{wait-accepted}
 use Rattle.dispatch.proofs.NextSteps.{Next, history-next}
+
+-- ---- n steps after the start, with k arbitrations made and an answer of the last
+
+unfoldable pub runFrom : State → ℕ → Answer → List Event → Outcome Ran State
+runFrom s n b es =
+    let last = lastAnswer b es in
+    outcome (refusedOr (verdictOf last) (λ r. ran.RefusedAt r (n + stepsDone es)) (ran.Done (n + stepsDone es) last)) (stateAfter s es)
+
+unfoldable pub waitFrom : ℕ → State → ℕ → ℕ → Answer → List Event → Outcome Waited State
+waitFrom source s n k b es =
+    let last = lastAnswer b es in
+    outcome (refusedOr (verdictOf last) (λ r. waited.RefusedAt r (n + stepsDone es) (k + arbitrationsIn es))
+    (cond (acknowledges source last) (waited.Acknowledged (k + arbitrationsIn es)) (waited.Ended (k + arbitrationsIn es)))) (stateAfter s es)
+
+-- at the start
+pub run-starts : (s : State) (cs : List Channel) (xs : List Step) → length (s .image) ≡ imageLength → listOk cs ≡ true
+    → runOf s cs xs ≡ runFrom s 0 answer.NoStep (runEvents s cs xs)
+unfolding runOf runAnswer runFrom
+run-starts s cs xs l ok = rw (lent-accepted s cs l ok, zero-add)
+
+pub wait-starts : (s : State) (cs : List Channel) (source : ℕ) (xs : List Step) → length (s .image) ≡ imageLength → listOk cs ≡ true → source < sources cs
+    → waitOf s cs source xs ≡ waitFrom source s 0 0 answer.NoStep (waitEvents s cs source xs)
+unfolding waitOf waitAnswer waitFrom
+wait-starts s cs source xs l ok h = rw (wait-accepted s cs source (lent-accepted s cs l ok) h, zero-add, zero-add)
 
 -- ---- no step left
 
 module _ (s : State) (cs : List Channel) {ys : List Step} (none : ys ≡ []) (n : ℕ) where
   -- a run is done
-  pub run-end : (b : Answer) → verdictOf b ≡ verdict.Accepted → runReport s n b (runEvents s cs ys) ≡ runOutcome (ran.Done n b) s
-  unfolding runReport history stateAfter counted until lastAnswer
+  pub run-end : (b : Answer) → verdictOf b ≡ verdict.Accepted → runFrom s n b (runEvents s cs ys) ≡ outcome (ran.Done n b) s
+  unfolding runFrom history stateAfter counted until lastAnswer
   run-end b v = rw (none, v, add-zero)
 
   -- a wait report ends without an acknowledgement
-  pub wait-end : (source k : ℕ) → waitReport source s n k answer.NoStep (waitEvents s cs source ys) ≡ waitOutcome (waited.Ended k) s
-  unfolding waitReport history stateAfter counted until lastAnswer
+  pub wait-end : (source k : ℕ) → waitFrom source s n k answer.NoStep (waitEvents s cs source ys) ≡ outcome (waited.Ended k) s
+  unfolding waitFrom history stateAfter counted until lastAnswer
   wait-end source k = rw (none, add-zero)
 
 -- ---- a step left
 
 -- the last answer does not matter where it is accepted and acknowledges nothing
 last-free : (source : ℕ) (s : State) (n k : ℕ) (a : Answer) (es : List Event) → verdictOf a ≡ verdict.Accepted → acknowledges source a ≡ false
-    → waitReport source s n k a es ≡ waitReport source s n k answer.NoStep es
-unfolding waitReport lastAnswer
+    → waitFrom source s n k a es ≡ waitFrom source s n k answer.NoStep es
+unfolding waitFrom lastAnswer
 last-free source s n k a [] v f = rw (v, f)
 last-free source s n k a (e ∷ es) v f = refl
 
@@ -57,33 +88,33 @@ module _ {s t : State} {cs : List Channel} {ys xs : List Step} {x : Step} {a : A
 
   module _ (n : ℕ) (b : Answer) where
     -- a run that goes on has done one step more
-    pub run-on : verdictOf a ≡ verdict.Accepted → runReport s n b (runEvents s cs ys) ≡ runReport t (n + 1) a (runEvents t cs xs)
-    unfolding runReport stateAfter counted lastAnswer
+    pub run-on : verdictOf a ≡ verdict.Accepted → runFrom s n b (runEvents s cs ys) ≡ runFrom t (n + 1) a (runEvents t cs xs)
+    unfolding runFrom stateAfter counted lastAnswer
     run-on v = rw (events-on v, v, ← add-assoc)
 
     -- one that stops is refused at the step
-    pub run-stop : {r : Refusal} → verdictOf a ≡ verdict.Refused r → runReport s n b (runEvents s cs ys) ≡ runOutcome (ran.RefusedAt r n) t
-    unfolding runReport stateAfter counted lastAnswer
+    pub run-stop : {r : Refusal} → verdictOf a ≡ verdict.Refused r → runFrom s n b (runEvents s cs ys) ≡ outcome (ran.RefusedAt r n) t
+    unfolding runFrom stateAfter counted lastAnswer
     run-stop v = rw (events-stop v, v) (simp add-zero)
 
     module _ (source k : ℕ) where
       -- a wait report that goes on has also counted the step if it is an arbitration
       pub wait-on : verdictOf a ≡ verdict.Accepted → acknowledges source a ≡ false
-          → waitReport source s n k b (waitEvents s cs source ys)
-          ≡ waitReport source t (n + 1) (k + oneIf (isArbitration x)) answer.NoStep (waitEvents t cs source xs)
-      unfolding waitReport stateAfter counted until lastAnswer
+          → waitFrom source s n k b (waitEvents s cs source ys)
+          ≡ waitFrom source t (n + 1) (k + oneIf (isArbitration x)) answer.NoStep (waitEvents t cs source xs)
+      unfolding waitFrom stateAfter counted until lastAnswer
       wait-on v f =
           rw (events-on v, f, v, and-true (isArbitration x), ← add-assoc n, ← add-assoc k)
           (last-free source t (n + 1) (k + oneIf (isArbitration x)) a (waitEvents t cs source xs) v f)
 
       -- it ends with the acknowledgement
       pub wait-acknowledges : verdictOf a ≡ verdict.Accepted → acknowledges source a ≡ true
-          → waitReport source s n k b (waitEvents s cs source ys) ≡ waitOutcome (waited.Acknowledged (k + oneIf (isArbitration x))) t
-      unfolding waitReport stateAfter counted until lastAnswer
+          → waitFrom source s n k b (waitEvents s cs source ys) ≡ outcome (waited.Acknowledged (k + oneIf (isArbitration x))) t
+      unfolding waitFrom stateAfter counted until lastAnswer
       wait-acknowledges v f = rw (events-on v, f, v, f, and-true (isArbitration x), add-zero)
 
       -- or is refused at the step
       pub wait-stop : {r : Refusal} → verdictOf a ≡ verdict.Refused r
-          → waitReport source s n k b (waitEvents s cs source ys) ≡ waitOutcome (waited.RefusedAt r n k) t
-      unfolding waitReport stateAfter counted until lastAnswer
+          → waitFrom source s n k b (waitEvents s cs source ys) ≡ outcome (waited.RefusedAt r n k) t
+      unfolding waitFrom stateAfter counted until lastAnswer
       wait-stop v = rw (events-stop v, cond-none (acknowledges source a), v, and-false (isArbitration x)) (simp add-zero)

@@ -9,18 +9,14 @@ use rules::Channels;
 use rules::Ran;
 use rules::Verdict;
 use rules::Waited;
-ghost use mathlib.Core.Path.{_≡_};
-ghost use mathlib.Core.Bool.{true};
-ghost use lib.ListN.{length};
-ghost use Rattle.rules.specs.Image.{imageLength, state};
-ghost use Rattle.rules.specs.Channels.{listOk, listOf};
-ghost use Rattle.rules.specs.Steps.{stepsOf};
-ghost use Rattle.rules.specs.Runs.{runOutcome, runReport, runEvents, waitOutcome, waitReport, waitEvents};
+ghost use Rattle.rules.specs.Channels.{listOf, Accepted};
+ghost use Rattle.rules.specs.Sources.{AcceptedSource};
+ghost use Rattle.rules.specs.Promises.{Runs, Waits};
 
 // The steps one after another, up to the first refused.
 pub(crate) fn run_accepted(image: &mut [u8], all: Channels, words: &[u64]) -> Ran
-    requires { ⌜ (length (now image) ≡ imageLength) × (listOk (listOf all) ≡ true) ⌝ }
-    ensures { λ r. ⌜ runOutcome r (state (now (image .exit))) ≡ runReport (state (now (image .entry))) 0 Answer.NoStep (runEvents (state (now (image .entry))) (listOf all) (stepsOf (now (words .entry)))) ⌝ }
+    requires { ⌜ Accepted (now image) (listOf all) ⌝ }
+    ensures { λ r. ⌜ Runs (now (image .entry)) (listOf all) (now (words .entry)) r (now (image .exit)) ⌝ }
 {
     let mut steps: usize = 0;
     let mut last = Answer::NoStep;
@@ -44,8 +40,8 @@ pub(crate) fn run_accepted(image: &mut [u8], all: Channels, words: &[u64]) -> Ra
 
 // The same up to the acknowledgement of a source, if there is one; every arbitration is counted that isn't refused.
 pub(crate) fn wait_accepted(image: &mut [u8], all: Channels, source: u32, words: &[u64]) -> Waited
-    requires { ⌜ (length (now image) ≡ imageLength) × (listOk (listOf all) ≡ true) ⌝ }
-    ensures { λ w. ⌜ waitOutcome w (state (now (image .exit))) ≡ waitReport source (state (now (image .entry))) 0 0 Answer.NoStep (waitEvents (state (now (image .entry))) (listOf all) source (stepsOf (now (words .entry)))) ⌝ }
+    requires { ⌜ AcceptedSource (now image) (listOf all) source ⌝ }
+    ensures { λ w. ⌜ Waits (now (image .entry)) (listOf all) source (now (words .entry)) w (now (image .exit)) ⌝ }
 {
     let mut done: usize = 0;
     let mut made: usize = 0;

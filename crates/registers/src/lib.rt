@@ -20,12 +20,11 @@ use table::reset_bytes;
 use table::reset_masks;
 use table::row_place;
 ghost use mathlib.Core.Path.{_≡_};
-ghost use mathlib.Core.Bool.{true};
 ghost use Prim.Native.Nat.{_≤_};
 ghost use lib.ListN.{length};
 ghost use Rattle.rules.specs.Image.{imageLength};
-ghost use Rattle.rules.specs.Channels.{mostRecords, listOk, listOf};
-ghost use Rattle.rules.specs.Outcomes.{change};
+ghost use Rattle.rules.specs.Channels.{mostRecords, listOf, Accepted};
+ghost use Rattle.rules.specs.Outcomes.{outcome};
 ghost use Rattle.rules.specs.Registers.{pageZero, recordPlace, recordsPlace, placeOf, readOf, storedByte, lostBits, writeOf, resetOf, viewVerdict};
 ghost use Rattle.rules.specs.Promises.{Views};
 
@@ -81,7 +80,7 @@ fn records_place(all: Channels, page: u8, register: u8) -> Place
 
 // Where a register number goes, with the page that PPR selects.
 fn place_of(image: &[u8], all: Channels, register: u32) -> Place
-    requires { ⌜ (length (now image) ≡ imageLength) × (listOk (listOf all) ≡ true) ⌝ }
+    requires { ⌜ Accepted (now image) (listOf all) ⌝ }
     ensures { λ p. ⌜ p ≡ placeOf (now (image .entry)) (listOf all) register ⌝ }
 {
     if register < 240 {
@@ -101,7 +100,7 @@ fn place_of(image: &[u8], all: Channels, register: u32) -> Place
 
 // Reads a register: the stored byte with absent bits as 0.
 pub fn read(image: &[u8], all: Channels, register: u32) -> Answer
-    requires { ⌜ (length (now image) ≡ imageLength) × (listOk (listOf all) ≡ true) ⌝ }
+    requires { ⌜ Accepted (now image) (listOf all) ⌝ }
     ensures { λ a. ⌜ a ≡ readOf (now (image .entry)) (listOf all) register ⌝ }
 {
     match place_of(image, all, register) {
@@ -132,8 +131,8 @@ fn lost_bits(i: usize, old: u8, new: u8) -> u8
 
 // Writes a register, and answers the pending bits that were lost.
 pub fn write(image: &mut [u8], all: Channels, register: u32, value: u8) -> Answer
-    requires { ⌜ (length (now image) ≡ imageLength) × (listOk (listOf all) ≡ true) ⌝ }
-    ensures { λ a. ⌜ change a (now (image .exit)) ≡ writeOf (now (image .entry)) (listOf all) register value ⌝ }
+    requires { ⌜ Accepted (now image) (listOf all) ⌝ }
+    ensures { λ a. ⌜ outcome a (now (image .exit)) ≡ writeOf (now (image .entry)) (listOf all) register value ⌝ }
 {
     match place_of(image, all, register) {
         Place::At(i, e) => {
@@ -151,7 +150,7 @@ pub fn write(image: &mut [u8], all: Channels, register: u32, value: u8) -> Answe
 // Resets the registers of the table, and clears the mark.
 pub fn reset(image: &mut [u8]) -> Answer
     requires { ⌜ length (now image) ≡ imageLength ⌝ }
-    ensures { λ a. ⌜ change a (now (image .exit)) ≡ resetOf (now (image .entry)) ⌝ }
+    ensures { λ a. ⌜ outcome a (now (image .exit)) ≡ resetOf (now (image .entry)) ⌝ }
 {
     let masks = reset_masks();
     let bytes = reset_bytes();

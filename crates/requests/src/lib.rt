@@ -15,13 +15,12 @@ use rules::MOST_RECORDS;
 use rules::Request;
 use rules::Winner;
 ghost use mathlib.Core.Path.{_≡_};
-ghost use mathlib.Core.Bool.{true};
 ghost use mathlib.Core.List.{List};
 ghost use Prim.Native.Nat.{_+_, _<_, _≤_, min};
 ghost use lib.ListN.{length};
 ghost use Rattle.rules.specs.declared.Channel.{Channel};
 ghost use Rattle.rules.specs.Image.{imageLength};
-ghost use Rattle.rules.specs.Channels.{listOk, listOf};
+ghost use Rattle.rules.specs.Channels.{listOf, Accepted};
 ghost use Rattle.rules.specs.Sources.{externalLevel};
 ghost use Rattle.rules.specs.Requests.{requestOf, wonBy, winnerOf};
 ghost use Rattle.requests.specs.Ranks.{recordRequest, rankOf, positionLimit, NoneBelow, RanksBelow, scanned};
@@ -130,7 +129,7 @@ fn gather_externals(image: &[u8]) -> Gathered
 
 // The ranks of every position: one pass over the external channels and the records.
 fn gather(image: &[u8], all: Channels) -> Gathered
-    requires { ⌜ (length (now image) ≡ imageLength) × (listOk (listOf all) ≡ true) ⌝ }
+    requires { ⌜ Accepted (now image) (listOf all) ⌝ }
     ensures { λ g. ⌜ RanksBelow (now (image .entry)) (listOf all) (8 + all .count) (g .ranks) (g .least) ⌝ }
 {
     let externals = gather_externals(image);
@@ -188,7 +187,7 @@ fn scan(ranks: [u8; POSITIONS], least: u8, positions: usize) -> Winner
 
 // The winner: levels from 0 up, within a level DMA before interrupt, then positions from 0 up. Where nothing has a rank there is nothing to scan.
 pub fn winner_of(image: &[u8], all: Channels) -> Winner
-    requires { ⌜ (length (now image) ≡ imageLength) × (listOk (listOf all) ≡ true) ⌝ }
+    requires { ⌜ Accepted (now image) (listOf all) ⌝ }
     ensures { λ w. ⌜ w ≡ winnerOf (now (image .entry)) (listOf all) ⌝ }
 {
     let gathered = gather(image, all);

@@ -13,8 +13,8 @@ use borrow.Author.Tests.{ltb-false, leb-true, leb-false, ne-eqb}
 use Rattle.bits.specs.Bits.{bit}
 use Rattle.rules.specs.declared.Channel.{Channel}
 use Rattle.rules.specs.Image.{Image, imageLength, at, has, put, Bit, bitOf, CPL, HL, IAM, IEN, TLNM, CICR, NICR, EIPR, EIMR, EIPLR, MARK}
-use Rattle.rules.specs.Channels.{idcrByte, listOk}
-use Rattle.rules.specs.Sources.{sources, external, recordOf, PRL, pendingBit, pending, unmasked, dmaEnabled, externalLevel, level}
+use Rattle.rules.specs.Channels.{idcrByte, listOk, PRL}
+use Rattle.rules.specs.Sources.{sources, external, recordOf, pendingBit, pending, unmasked, dmaEnabled, externalLevel, level}
 use Rattle.rules.specs.Arbitration.{cleared, pushed, nested, acknowledged}
 use Rattle.rules.proofs.Bools.{cond-elim, cond-same, cond-or}
 use Rattle.rules.proofs.ImageLaws.{Apart, put-length, at-put-other, has-put-same, has-put-bit, has-put-other, low-put, putCPL-length, at-putCPL-other, CPL-putCPL, has-putCPL}

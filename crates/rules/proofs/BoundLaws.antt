@@ -11,13 +11,14 @@ use Rattle.rules.specs.declared.Step.{Step}
 use Rattle.rules.specs.declared.Waited.{Waited}
 use Rattle.rules.specs.declared.Bounded.{Bounded}
 use Rattle.rules.specs.declared.Bounded.the-variants as bounded
-use Rattle.rules.specs.Image.{Image, state, has, CPL, IEN}
+use Rattle.rules.specs.Image.{Image, has, CPL, IEN}
+use Rattle.rules.specs.Outcomes.{state}
 use Rattle.rules.specs.Sources.{sources, pending, dmaEnabled, level}
-use Rattle.rules.specs.Steps.{stepsOf}
 use Rattle.rules.specs.Runs.{Event, history, anyEvent, eventRefused, isArbitration, eventAcknowledges, waitOf}
-use Rattle.rules.specs.Waiting.{H, E, Start, isCall, Calls, rival, WaitWithin}
-use Rattle.rules.specs.Bounds.{calmElse, sourceElse, startElse, otherStep, disabledStep, firstFrom, boundIn, boundOf, whereBounded, BoundSays, WaitKeeps}
-use Rattle.rules.specs.Answers.{toldBound}
+use Rattle.rules.specs.Demand3.{H, E, Start, isCall, OnlyCalls, rival}
+use Rattle.rules.specs.Claims.{WaitWithin}
+use Rattle.rules.specs.Bounds.{calmPremises, sourcePremises, startPremises, otherStep, disabledStep, firstFrom, boundIn, boundOf, whereBounded, BoundSays, WaitInBound}
+use Rattle.rules.specs.Encodings.{stepsOf, toldBound}
 use Rattle.rules.specs.Promises.{Waits, BoundWaits}
 use Rattle.rules.proofs.Bools.{or-off, or-off-r}
 use Rattle.rules.proofs.AnyBelow.{any-none}
@@ -66,8 +67,8 @@ exactly-where A C h₀ e₀ b gives holds =
     (λ n a c. n (subst Given (sym (gives a c)) tt))
 
 -- with the premises on the start, what is answered is what the steps give
-pub start-kept : (m : Image) (cs : List Channel) (s : ℕ) (b : Bounded) → Start m cs s → startElse m cs s b ≡ b
-unfolding calmElse sourceElse
+pub start-kept : (m : Image) (cs : List Channel) (s : ℕ) (b : Bounded) → Start m cs s → startPremises m cs s b ≡ b
+unfolding calmPremises sourcePremises
 start-kept m cs s b a =
     rw (
       a .calm .concurrent,
@@ -92,7 +93,7 @@ implies a true e f = refl
 implies a false e f = absurd (false≢true (sym e ∙ rw f))
 
 -- where the premises hold there is no other step and no arbitration with interrupts disabled,
-calls-none : (i : ℕ) (es : List Event) → Calls es → (firstFrom i otherStep es ≡ none) × (firstFrom i disabledStep es ≡ none)
+calls-none : (i : ℕ) (es : List Event) → OnlyCalls es → (firstFrom i otherStep es ≡ none) × (firstFrom i disabledStep es ≡ none)
 unfolding firstFrom
 calls-none i [] c = (refl, refl)
 calls-none i (e ∷ es) c =
@@ -102,7 +103,7 @@ calls-none i (e ∷ es) c =
     )
 
 -- and where there is none they hold
-pub none-calls : (es : List Event) → anyEvent otherStep es ≡ false → anyEvent disabledStep es ≡ false → Calls es
+pub none-calls : (es : List Event) → anyEvent otherStep es ≡ false → anyEvent disabledStep es ≡ false → OnlyCalls es
 unfolding anyEvent
 none-calls [] o d = tt
 none-calls (e ∷ es) o d = (
@@ -118,20 +119,20 @@ module _ (m : Image) (cs : List Channel) (s : ℕ) (xs : List Step) where
   events = history (state m) cs xs
 
   -- with all of them the bound is H + E + 1
-  pub bound-given : Start m cs s → Calls events → boundOf (state m) cs s xs ≡ bounded.Within (H m cs s) (E m cs s events) (H m cs s + E m cs s events + 1)
+  pub bound-given : Start m cs s → OnlyCalls events → boundOf (state m) cs s xs ≡ bounded.Within (H m cs s) (E m cs s events) (H m cs s + E m cs s events + 1)
   unfolding boundOf boundIn
   bound-given a c =
       rw (wait-accepted (state m) cs s (lent-accepted (state m) cs (a .calm .long) (a .calm .listed)) (a .there))
       (start-kept m cs s (boundIn m cs s events) a ∙ rw (calls-none 0 events c .0, calls-none 0 events c .1))
 
   -- and with a bound they hold
-  given-premises : (h e k : ℕ) → boundOf (state m) cs s xs ≡ bounded.Within h e k → Start m cs s × Calls events
+  given-premises : (h e k : ℕ) → boundOf (state m) cs s xs ≡ bounded.Within h e k → Start m cs s × OnlyCalls events
   given-premises h e k q =
       let f = subst (Failing m cs s events) q (first-failing m cs s xs) in
       (above-start m cs s (f .0), none-calls events (f .1 .0) (f .1 .1))
 
-  pub bound-says : BoundSays m cs s xs (boundOf (state m) cs s xs)
-  bound-says = exactly-where (Start m cs s) (Calls events) (H m cs s) (E m cs s events) (boundOf (state m) cs s xs) bound-given given-premises
+  pub bound-says : BoundSays (state m) cs s xs (boundOf (state m) cs s xs)
+  bound-says = exactly-where (Start m cs s) (OnlyCalls events) (H m cs s) (E m cs s events) (boundOf (state m) cs s xs) bound-given given-premises
 
 -- ---- a wait report on the same data
 
@@ -139,8 +140,8 @@ module _ (m : Image) (cs : List Channel) (s : ℕ) (xs : List Step) where
 pub keeps-told : (m : Image) (cs : List Channel) (s : ℕ) (words : List ℕ) (b b₀ : Bounded) (w : Waited) (after : Image)
     → toldBound b ≡ toldBound b₀ → Waits m cs s words w after
     → ((h e k : ℕ) → b₀ ≡ bounded.Within h e k
-    → WaitWithin (h + e) (waitOf (state m) cs s (stepsOf words) .answer) (pending (waitOf (state m) cs s (stepsOf words) .state .image) cs s) × (k ≡ h + e + 1))
-    → WaitKeeps b w (pending after cs s)
+    → WaitWithin k (waitOf (state m) cs s (stepsOf words) .answer) (pending (waitOf (state m) cs s (stepsOf words) .left .image) cs s) × (k ≡ h + e + 1))
+    → WaitInBound b w (pending after cs s)
 keeps-told m cs s words b b₀ w after same waits gives =
     where-elim _ _ b
     (λ h e k q.
@@ -155,8 +156,9 @@ bound-waits m cs s words b w after bounds waits =
     let o = waitOf (state m) cs s xs in
     keeps-told m cs s words b (boundOf (state m) cs s xs) w after bounds waits
     (λ h e k q.
-    let given : BoundSays m cs s xs (bounded.Within h e k) = subst (BoundSays m cs s xs) q (bound-says m cs s xs) in (
-      rw (given .2, given .3) (within-more _ _ (o .answer) (pending (o .state .image) cs s) (omega (arith, fewer-until m cs s (eventAcknowledges s) es, calls-raise-none cs s (rival m cs s) es (given .1)))
-          (wait-within m cs s xs (given .0) (handle-until cs s (eventAcknowledges s) es (calls-handle cs s es (given .1))))),
+    let given : BoundSays (state m) cs s xs (bounded.Within h e k) = subst (BoundSays (state m) cs s xs) q (bound-says m cs s xs) in (
+      within-more _ _ (o .answer) (pending (o .left .image) cs s)
+          (omega (arith, given .2, given .3, given .4, fewer-until m cs s (eventAcknowledges s) es, calls-raise-none cs s (rival m cs s) es (given .1)))
+          (wait-within (state m) cs s xs (given .0) (handle-until cs s (eventAcknowledges s) es (calls-handle cs s es (given .1)))),
       given .4,
     ))

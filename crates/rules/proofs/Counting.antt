@@ -13,7 +13,7 @@ use Rattle.rules.specs.declared.Channel.{Channel}
 use Rattle.rules.specs.Image.{Image}
 use Rattle.rules.specs.Sources.{sources, pending}
 use Rattle.rules.specs.Runs.{oneIf}
-use Rattle.rules.specs.Waiting.{countBelow, pendingOf}
+use Rattle.rules.specs.Demand3.{countBelow, pendingOf}
 use Rattle.rules.specs.Handlers.{raises, raised}
 use Rattle.rules.proofs.Bools.{both}
 

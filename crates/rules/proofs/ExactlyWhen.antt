@@ -24,17 +24,18 @@ use Rattle.rules.specs.declared.Refusal.{Refusal}
 use Rattle.rules.specs.declared.Refusal.the-variants as refusal
 use Rattle.rules.specs.declared.Verdict.{Verdict}
 use Rattle.rules.specs.declared.Verdict.the-variants as verdict
-use Rattle.rules.specs.Image.{Image, State, at, inService}
+use Rattle.rules.specs.Image.{Image, at, inService}
 use Rattle.rules.specs.Channels.{listOk, dcprByte}
-use Rattle.rules.specs.Outcomes.{Change, verdictOf}
+use Rattle.rules.specs.Outcomes.{State, Outcome, verdictOf}
 use Rattle.rules.specs.Registers.{placeOf, readAt, readOf, writeAt, writeOf, resetOf}
 use Rattle.rules.specs.Sources.{recordOf}
+use Rattle.rules.specs.Triggers.{triggerVerdict, fired, triggerOf}
 use Rattle.rules.specs.Requests.{winnerOf}
-use Rattle.rules.specs.Triggers.{triggerVerdict, selects, selectsTop, fire, triggerOf}
 use Rattle.rules.specs.Transfer.{pairOf, served, transferOf}
-use Rattle.rules.specs.Arbitration.{granted, topLevel, arbitration, arbitrateOf}
+use Rattle.rules.specs.Arbitration.{granted, topLevel, arbitrateOf}
 use Rattle.rules.specs.Return.{returnOf}
-use Rattle.rules.specs.Steps.{lentVerdict, actOf, actIf, stepOf}
+use Rattle.rules.specs.Steps.{lentVerdict, actOf, stepOf}
+use Rattle.rules.proofs.Verdicts.{verdict-elim}
 use Rattle.rules.proofs.Bools.{cond-elim, or-cases}
 use Rattle.rules.proofs.WriteLaws.{write-refused, read-refused}
 use Rattle.rules.proofs.SelectionLaws.{pin-refused, nmi-verdict, request-verdict, kind-verdict}
@@ -113,14 +114,14 @@ module _ (s : State) (cs : List Channel) (l : Lent s cs verdict.Accepted) where
       (λ e. (l, trigger.Request k, refl, ltb-false k (length cs) e))
   trigger-explained trigger.Unknown = (l, inr refl)
 
-  fire-explained : (x : Step) (t : Trigger) (v : Verdict) → Explained s cs x v
-      → Explained s cs x (verdictOf (fire m cs v (selects m t) (selectsTop m t) .answer))
-  unfolding fire
-  fire-explained x t verdict.Accepted h = tt
-  fire-explained x t (verdict.Refused r) h = h
+  fire-explained : (t : Trigger) → Explained s cs (step.Trigger t) (verdictOf (triggerOf m cs t .answer))
+  unfolding triggerOf fired
+  fire-explained t =
+      let h = trigger-explained t in
+      verdict-elim (λ (o : Outcome Answer Image). Explained s cs (step.Trigger t) (verdictOf (o .answer))) (triggerVerdict cs t) (λ e. tt) (λ r e. rw e at h)
 
   -- what an arbitration answers with has its cause
-  abbrev Arbitrated : Change → Type 0
+  abbrev Arbitrated : Outcome Answer Image → Type 0
   Arbitrated c = Explained s cs step.Arbitrate (verdictOf (c .answer))
 
   grant-explained : inService m ≡ false → topLevel m ≡ false → (w : Winner) → winnerOf m cs ≡ w → Arbitrated (granted m cs w)
@@ -138,10 +139,10 @@ module _ (s : State) (cs : List Channel) (l : Lent s cs verdict.Accepted) where
       odd n d = omega arith
 
   act-explained : (x : Step) → Explained s cs x (verdictOf (actOf s cs x .answer))
-  unfolding actOf readOf writeOf triggerOf arbitrateOf arbitration returnOf resetOf
+  unfolding actOf readOf writeOf arbitrateOf returnOf resetOf
   act-explained (step.Read r) = read-explained r (placeOf m cs r) refl
   act-explained (step.Write r v) = write-explained r v (placeOf m cs r) refl
-  act-explained (step.Trigger t) = fire-explained (step.Trigger t) t (triggerVerdict cs t) (trigger-explained t)
+  act-explained (step.Trigger t) = fire-explained t
   act-explained step.Arbitrate =
       cond-elim Arbitrated (inService m) (λ e. tt)
       (λ i. cond-elim Arbitrated (topLevel m) (λ e. tt) (λ t. grant-explained i t (winnerOf m cs) refl))
@@ -161,11 +162,11 @@ lent-explained s cs x refusal.Kind h = absurd h
 -- a refusal is given only for its cause, whatever the image, the list and the step are
 pub refused-only : (s : State) (cs : List Channel) (x : Step) (r : Refusal) → stepOf s cs x .answer ≡ answer.Refused r → Cause s cs x r
 unfolding stepOf
-refused-only s cs x r p = subst (Explained s cs x) (ap verdictOf p) (go (lentVerdict s cs) (lent-means s cs))
-  where
-    go : (v : Verdict) → Lent s cs v → Explained s cs x (verdictOf (actIf v s cs x .answer))
-    go verdict.Accepted h = act-explained s cs h x
-    go (verdict.Refused q) h = lent-explained s cs x q h
+refused-only s cs x r p =
+    let h = lent-means s cs in
+    subst (Explained s cs x) (ap verdictOf p)
+    (verdict-elim (λ (o : Outcome Answer State). Explained s cs x (verdictOf (o .answer))) (lentVerdict s cs) (λ v. act-explained s cs (rw v at h) x)
+    (λ q v. lent-explained s cs x q (rw v at h)))
 
 -- ---- and always then
 
@@ -186,11 +187,11 @@ module _ (s : State) (cs : List Channel) (x : Step) (l : Lent s cs verdict.Accep
   accessed r (inr (v, e)) f = acts (step.Write r v) e _ (write-refused (s .image) cs r v f .0)
 
   triggered : (t : Trigger) (r : Refusal) → x ≡ step.Trigger t → triggerVerdict cs t ≡ verdict.Refused r → stepOf s cs x .answer ≡ answer.Refused r
-  unfolding actOf triggerOf fire
+  unfolding actOf triggerOf
   triggered t r e v = acts (step.Trigger t) e (answer.Refused r) (rw v)
 
-  transfers : (w : ℕ) (c : Change) → DmaWins (s .image) cs x w → transferOf (s .image) (recordOf cs w) w ≡ c → stepOf s cs x .answer ≡ c .answer
-  unfolding actOf arbitrateOf arbitration granted
+  transfers : (w : ℕ) (c : Outcome Answer Image) → DmaWins (s .image) cs x w → transferOf (s .image) (recordOf cs w) w ≡ c → stepOf s cs x .answer ≡ c .answer
+  unfolding actOf arbitrateOf granted
   transfers w c h p = acts step.Arbitrate (h .arbitrates) (c .answer) (rw (h .idle, h .noTop, h .wins, p))
 
   unknown : (x ≡ step.Unknown) ⊎ (x ≡ step.Trigger trigger.Unknown) → stepOf s cs x .answer ≡ answer.Refused refusal.Kind

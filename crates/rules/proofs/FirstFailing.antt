@@ -3,7 +3,7 @@ use mathlib.Core.Path.{_≡_, refl}
 use mathlib.Core.Logic.{_⊎_, inl, inr}
 use mathlib.Core.List.{List, [], _∷_}
 use mathlib.Core.Bool.{Bool, true, false, cond, _||_}
-use mathlib.Core.Option.{Option, none, some}
+use mathlib.Core.Option.{Option, none, some, Option·getD, Option·map}
 use Prim.Native.Nat.{ℕ, suc, _+_, _≤_, _<_}
 use native.Mathlib.Omega.{arith}
 use lib.Dec.{ltb}
@@ -11,16 +11,17 @@ use lib.ListN.{take}
 use borrow.Author.Tests.{ltb-true, ltb-false}
 use Rattle.rules.specs.declared.Channel.{Channel}
 use Rattle.rules.specs.declared.Step.{Step}
-use Rattle.rules.specs.declared.Verdict.{Verdict}
 use Rattle.rules.specs.declared.Verdict.the-variants as verdict
 use Rattle.rules.specs.declared.Basis.{Basis}
 use Rattle.rules.specs.declared.Bounded.{Bounded}
 use Rattle.rules.specs.declared.Bounded.the-variants as bounded
-use Rattle.rules.specs.Image.{Image, state, has, inService, CPL, IAM, TLI, TLNM}
+use Rattle.rules.specs.Image.{Image, has, inService, CPL, IAM, TLI, TLNM}
+use Rattle.rules.specs.Outcomes.{state}
 use Rattle.rules.specs.Sources.{sources, pending, unmasked, dmaEnabled, level}
 use Rattle.rules.specs.Runs.{Event, history, anyEvent, waitVerdict}
-use Rattle.rules.specs.Waiting.{H, E, Start}
-use Rattle.rules.specs.Bounds.{anyDma, calmElse, sourceElse, startElse, otherStep, disabledStep, firstFrom, stepsElse, boundIn, unlessRefused, boundOf}
+use Rattle.rules.specs.Demand3.{H, E, Start}
+use Rattle.rules.specs.Bounds.{anyDma, calmPremises, sourcePremises, startPremises, otherStep, disabledStep, firstFrom, bounding, boundIn, boundOf}
+use Rattle.rules.proofs.Verdicts.{verdict-elim}
 use Rattle.rules.proofs.Bools.{impossible, or-l}
 use Rattle.rules.proofs.AnyBelow.{any-some, none-passes}
 use Rattle.rules.proofs.Refusals.{lent-sound}
@@ -115,7 +116,7 @@ module _ (m : Image) (cs : List Channel) (s : ℕ) where
       }
 
   -- the premises before it hold, and it fails; what is said of the answers on the steps is given
-  module _ (Other : ℕ → Type 0) (Change : Basis → ℕ → Type 0) (Disabled : ℕ → Type 0) (All : Type 0) where
+  module _ (Other : ℕ → Type 0) (Changes : Basis → ℕ → Type 0) (Disabled : ℕ → Type 0) (All : Type 0) where
     abbrev pub FailingBy : Bounded → Type 0
     FailingBy (bounded.Refused r) = waitVerdict (state m) cs s ≡ verdict.Refused r
     FailingBy bounded.Nested = Accepted × (has m IAM ≡ true)
@@ -126,14 +127,14 @@ module _ (m : Image) (cs : List Channel) (s : ℕ) where
     FailingBy bounded.Masked = Waits × (unmasked m cs s ≡ false)
     FailingBy bounded.LevelNotAbove = Open × (CPL m ≤ level m cs s)
     FailingBy (bounded.OtherStep i) = Above × Other i
-    FailingBy (bounded.Changed a i) = Above × Change a i
+    FailingBy (bounded.Changed a i) = Above × Changes a i
     FailingBy (bounded.InterruptsDisabled i) = Above × Disabled i
     FailingBy (bounded.Within h e k) = Above × All
 
     module _ (b : Bounded) (steps : Above → FailingBy b) where
       -- of the source
-      source-failing : Idle → FailingBy (sourceElse m cs s b)
-      unfolding sourceElse
+      source-failing : Idle → FailingBy (sourcePremises m cs s b)
+      unfolding sourcePremises
       source-failing c = go (pending m cs s) (unmasked m cs s) (ltb (level m cs s) (CPL m)) refl refl refl
         where
           go : (waits mask above : Bool) → pending m cs s ≡ waits → unmasked m cs s ≡ mask → ltb (level m cs s) (CPL m) ≡ above
@@ -144,15 +145,15 @@ module _ (m : Image) (cs : List Channel) (s : ℕ) where
           go true true true p q r = steps (((c, p), q), ltb-true (level m cs s) (CPL m) r)
 
       -- of the image and the list
-      pub start-failing : Accepted → FailingBy (startElse m cs s b)
-      unfolding calmElse
+      pub start-failing : Accepted → FailingBy (startPremises m cs s b)
+      unfolding calmPremises
       start-failing a = go (has m IAM) (anyDma m cs) (has m TLNM) (has m TLI) (inService m) refl refl refl refl refl
         where
           no-dma : anyDma m cs ≡ false → (k : ℕ) → k < sources cs → dmaEnabled m cs k ≡ false
           no-dma q k h = none-passes (dmaEnabled m cs) (sources cs) k q h
 
           go : (iam dma tlnm tli mark : Bool) → has m IAM ≡ iam → anyDma m cs ≡ dma → has m TLNM ≡ tlnm → has m TLI ≡ tli → inService m ≡ mark
-              → FailingBy (cond iam bounded.Nested (cond dma bounded.DmaEnabled (cond (tlnm || tli) bounded.TopLevelEnabled (cond mark bounded.TopLevelInService (sourceElse m cs s b)))))
+              → FailingBy (cond iam bounded.Nested (cond dma bounded.DmaEnabled (cond (tlnm || tli) bounded.TopLevelEnabled (cond mark bounded.TopLevelInService (sourcePremises m cs s b)))))
           go true dma tlnm tli mark p q r t u = (a, p)
           go false true tlnm tli mark p q r t u = let k = any-some (dmaEnabled m cs) (sources cs) q in ((a, p), k .0, k .1, k .2)
           go false false true tli mark p q r t u = (((a, p), no-dma q), inl r)
@@ -168,7 +169,8 @@ module _ (m : Image) (cs : List Channel) (s : ℕ) (es : List Event) where
       FailingBy m cs s (FirstAt otherStep es) (λ a i. ⊥) (λ i. (anyEvent otherStep es ≡ false) × FirstAt disabledStep es i)
       ((anyEvent otherStep es ≡ false) × (anyEvent disabledStep es ≡ false))
 
-  steps-failing : Above m cs s → (o d : Option ℕ) (h e : ℕ) → firstFrom 0 otherStep es ≡ o → firstFrom 0 disabledStep es ≡ d → Failing (stepsElse o d h e)
+  steps-failing : Above m cs s → (o d : Option ℕ) (h e : ℕ) → firstFrom 0 otherStep es ≡ o → firstFrom 0 disabledStep es ≡ d
+      → Failing (Option·getD (Option·map bounded.OtherStep o) (Option·getD (Option·map bounded.InterruptsDisabled d) (bounding h e)))
   steps-failing a (some i) d h e p q = let f = first-at otherStep 0 es i p in let n : f .0 ≡ i = omega (arith, f .1) in (a, rw n at (f .2))
   steps-failing a none (some i) h e p q =
       let f = first-at disabledStep 0 es i q in
@@ -179,13 +181,9 @@ module _ (m : Image) (cs : List Channel) (s : ℕ) (es : List Event) where
 -- each answer is the first premise that fails
 pub first-failing : (m : Image) (cs : List Channel) (s : ℕ) (xs : List Step) → Failing m cs s (history (state m) cs xs) (boundOf (state m) cs s xs)
 unfolding boundOf boundIn
-first-failing m cs s xs = go (waitVerdict (state m) cs s) refl
-  where
-    es : List Event
-    es = history (state m) cs xs
-
-    go : (v : Verdict) → waitVerdict (state m) cs s ≡ v → Failing m cs s (history (state m) cs xs) (unlessRefused v (startElse m cs s (boundIn m cs s es)))
-    go verdict.Accepted e =
-        start-failing m cs s _ _ _ _ (boundIn m cs s es)
-        (λ a. steps-failing m cs s es a (firstFrom 0 otherStep es) (firstFrom 0 disabledStep es) (H m cs s) (E m cs s es) refl refl) e
-    go (verdict.Refused r) e = e
+first-failing m cs s xs =
+    let es = history (state m) cs xs in
+    verdict-elim (Failing m cs s es) (waitVerdict (state m) cs s)
+    (start-failing m cs s _ _ _ _ (boundIn m cs s es)
+    (λ a. steps-failing m cs s es a (firstFrom 0 otherStep es) (firstFrom 0 disabledStep es) (H m cs s) (E m cs s es) refl refl))
+    (λ r e. e)

@@ -3,26 +3,26 @@ use mathlib.Core.Path.{_≡_, refl, sym, _∙_, subst}
 use mathlib.Core.Logic.{_⊎_, inl, inr}
 use mathlib.Core.List.{List, [], _∷_}
 use mathlib.Core.Bool.{Bool, true, false, cond}
-use mathlib.Core.Option.{Option, none, some}
+use mathlib.Core.Option.{Option, none, some, Option·getD}
 use Prim.Native.Nat.{ℕ, suc, _+_, _≤_}
 use native.Mathlib.Omega.{arith}
 use lib.ListN.{take, drop}
 use Rattle.rules.specs.declared.Channel.{Channel}
 use Rattle.rules.specs.declared.Step.{Step}
 use Rattle.rules.specs.declared.Step.the-variants as step
-use Rattle.rules.specs.declared.Verdict.{Verdict}
-use Rattle.rules.specs.declared.Verdict.the-variants as verdict
 use Rattle.rules.specs.declared.Basis.{Basis}
 use Rattle.rules.specs.declared.Bounded.{Bounded}
 use Rattle.rules.specs.declared.Bounded.the-variants as bounded
-use Rattle.rules.specs.Image.{Image, state, has, IEN}
+use Rattle.rules.specs.Image.{Image, has, IEN}
+use Rattle.rules.specs.Outcomes.{state}
 use Rattle.rules.specs.Runs.{Event, history, eventRefused, isArbitration, eventAcknowledges, waitVerdict}
-use Rattle.rules.specs.Waiting.{rival, H, Start}
+use Rattle.rules.specs.Demand3.{rival, H, Start}
 use Rattle.rules.specs.Handlers.{isWrite, EAndRaised, MayDo, May, Enabled, Handles, upTo}
-use Rattle.rules.specs.Steps.{stepsOf}
-use Rattle.rules.specs.Bounds.{startElse, disabledStep, unlessRefused, boundOf, BoundSays}
+use Rattle.rules.specs.Bounds.{disabledStep, boundOf, BoundSays, bounding}
+use Rattle.rules.specs.HandlerBounds.{changes, bases, firstChanged, brokenStep, brokenBy, orLater, firstBroken, handlerBoundIn, handlerBoundOf, HandlerBoundSays}
+use Rattle.rules.specs.Encodings.{stepsOf}
 use Rattle.rules.specs.Promises.{HandlerBoundNotAbove, HandlerBoundWaits}
-use Rattle.rules.specs.HandlerBounds.{changes, bases, firstChanged, brokenStep, brokenBy, orLater, firstBroken, brokenElse, handlerBoundIn, handlerBoundOf, HandlerBoundSays}
+use Rattle.rules.proofs.Verdicts.{verdict-elim}
 use Rattle.rules.proofs.Bools.{not-both}
 use Rattle.rules.proofs.Refusals.{lent-accepted}
 use Rattle.rules.proofs.WaitLaws.{wait-accepted}
@@ -70,18 +70,18 @@ module _ (cs : List Channel) (s : ℕ) where
   EventBreaks e i (some b) =
       (Meets e → ⊥)
       × (((b ≡ bounded.InterruptsDisabled i) × (disabledStep e ≡ true))
-      ⊎ ((eventRefused e ≡ false) × StepBreaks (e .before .image) (e .step) (e .outcome .state .image) i (some b)))
+      ⊎ ((eventRefused e ≡ false) × StepBreaks (e .before .image) (e .step) (e .outcome .left .image) i (some b)))
 
   event-breaks : (e : Event) (i : ℕ) → EventBreaks e i (brokenBy cs s e i)
   unfolding brokenBy
   event-breaks e i =
-      go (disabledStep e) (eventRefused e) (brokenStep cs s (e .before .image) (e .step) (e .outcome .state .image) i) refl refl
-      (step-breaks (e .before .image) (e .step) (e .outcome .state .image) i)
+      go (disabledStep e) (eventRefused e) (brokenStep cs s (e .before .image) (e .step) (e .outcome .left .image) i) refl refl
+      (step-breaks (e .before .image) (e .step) (e .outcome .left .image) i)
     where
       enabled : disabledStep e ≡ false → Enabled e
       enabled = implies (isArbitration (e .step)) (has (e .before .image) IEN)
 
-      go : (d r : Bool) (o : Option Bounded) → disabledStep e ≡ d → eventRefused e ≡ r → StepBreaks (e .before .image) (e .step) (e .outcome .state .image) i o
+      go : (d r : Bool) (o : Option Bounded) → disabledStep e ≡ d → eventRefused e ≡ r → StepBreaks (e .before .image) (e .step) (e .outcome .left .image) i o
           → EventBreaks e i (cond d (some (bounded.InterruptsDisabled i)) (cond r none o))
       go true r o p q f =
           (λ h. not-both (disabledStep e) p (implied (isArbitration (e .step)) (has (e .before .image) IEN) (h .1)), inl (refl, p))
@@ -129,17 +129,17 @@ module _ (m : Image) (cs : List Channel) (s : ℕ) (es : List Event) where
   abbrev pub HandlerFailing : Bounded → Type 0
   HandlerFailing =
       FailingBy m cs s
-      (FailsAt (λ e. (eventRefused e ≡ false) × (isWrite (e .step) ≡ false) × (MayDo cs s (e .before .image) (e .step) (e .outcome .state .image) → ⊥)))
+      (FailsAt (λ e. (eventRefused e ≡ false) × (isWrite (e .step) ≡ false) × (MayDo cs s (e .before .image) (e .step) (e .outcome .left .image) → ⊥)))
       (λ a i.
-      FailsAt (λ e. (eventRefused e ≡ false) × (isWrite (e .step) ≡ true) × Leads (changes cs s (e .before .image) (e .outcome .state .image)) i bases a) i)
+      FailsAt (λ e. (eventRefused e ≡ false) × (isWrite (e .step) ≡ true) × Leads (changes cs s (e .before .image) (e .outcome .left .image)) i bases a) i)
       (FailsAt (λ e. disabledStep e ≡ true)) (Handles cs s es)
 
-  steps-failing : Above m cs s → (o : Option Bounded) (h e : ℕ) → ListBreaks cs s es 0 o → HandlerFailing (brokenElse o h e)
+  steps-failing : Above m cs s → (o : Option Bounded) (h e : ℕ) → ListBreaks cs s es 0 o → HandlerFailing (Option·getD o (bounding h e))
   steps-failing a none h e f = (a, f)
   steps-failing a (some b) h e f = let z : 0 + f .0 ≡ f .0 = omega arith in go (rw z at (f .5 .1))
     where
       go : ((b ≡ bounded.InterruptsDisabled (f .0)) × (disabledStep (f .1) ≡ true))
-          ⊎ ((eventRefused (f .1) ≡ false) × StepBreaks cs s (f .1 .before .image) (f .1 .step) (f .1 .outcome .state .image) (f .0) (some b))
+          ⊎ ((eventRefused (f .1) ≡ false) × StepBreaks cs s (f .1 .before .image) (f .1 .step) (f .1 .outcome .left .image) (f .0) (some b))
           → HandlerFailing b
       go (inl q) = rw (q .0) (a, (f .1, f .2, f .3, f .4, q .1))
       go (inr (r, (may, inl q))) = rw (q .0) (a, (f .1, f .2, f .3, f .4, (r, q .1, may)))
@@ -153,13 +153,11 @@ module _ (m : Image) (cs : List Channel) (s : ℕ) (xs : List Step) where
   -- each answer is the first premise that fails
   pub handler-failing : HandlerFailing m cs s events (handlerBoundOf (state m) cs s xs)
   unfolding handlerBoundOf handlerBoundIn
-  handler-failing = go (waitVerdict (state m) cs s) refl
-    where
-      go : (v : Verdict) → waitVerdict (state m) cs s ≡ v → HandlerFailing m cs s events (unlessRefused v (startElse m cs s (handlerBoundIn m cs s events)))
-      go verdict.Accepted e =
-          start-failing m cs s _ _ _ _ (handlerBoundIn m cs s events)
-          (λ a. steps-failing m cs s events a (firstBroken cs s 0 events) (H m cs s) (EAndRaised m cs s events) (list-breaks cs s events 0)) e
-      go (verdict.Refused r) e = e
+  handler-failing =
+      verdict-elim (HandlerFailing m cs s events) (waitVerdict (state m) cs s)
+      (start-failing m cs s _ _ _ _ (handlerBoundIn m cs s events)
+      (λ a. steps-failing m cs s events a (firstBroken cs s 0 events) (H m cs s) (EAndRaised m cs s events) (list-breaks cs s events 0)))
+      (λ r e. e)
 
   -- with the premises the bound is H + E + 1
   pub handler-bound-given : Start m cs s → Handles cs s events
@@ -174,7 +172,7 @@ module _ (m : Image) (cs : List Channel) (s : ℕ) (xs : List Step) where
   handler-premises h e k q = let f = subst (HandlerFailing m cs s events) q handler-failing in (above-start m cs s (f .0), f .1)
 
   -- so one is answered exactly where they hold
-  pub handler-bound-says : HandlerBoundSays m cs s xs (handlerBoundOf (state m) cs s xs)
+  pub handler-bound-says : HandlerBoundSays (state m) cs s xs (handlerBoundOf (state m) cs s xs)
   handler-bound-says =
       exactly-where (Start m cs s) (Handles cs s events) (H m cs s) (EAndRaised m cs s events) (handlerBoundOf (state m) cs s xs) handler-bound-given
       handler-premises
@@ -184,7 +182,7 @@ module _ (m : Image) (cs : List Channel) (s : ℕ) (xs : List Step) where
       → (e' : ℕ) × (e' ≤ e) × (handlerBoundOf (state m) cs s xs ≡ bounded.Within h e' (h + e' + 1))
   handler-bound-sharper h e k q =
       let es = history (state m) cs xs in
-      let given : BoundSays m cs s xs (bounded.Within h e k) = subst (BoundSays m cs s xs) q (bound-says m cs s xs) in (
+      let given : BoundSays (state m) cs s xs (bounded.Within h e k) = subst (BoundSays (state m) cs s xs) q (bound-says m cs s xs) in (
         EAndRaised m cs s events,
         omega (arith, given .3, fewer-until m cs s (eventAcknowledges s) es, calls-raise-none cs s (rival m cs s) es (given .1)),
         rw (given .2) (handler-bound-given (given .0) (handle-until cs s (eventAcknowledges s) es (calls-handle cs s es (given .1)))),
@@ -199,8 +197,8 @@ handler-bound-not-above m cs s words b b' bounds handlers =
     (λ h e k q.
     let sharper = handler-bound-sharper m cs s xs h e k (sym (told-bound-injective b (boundOf (state m) cs s xs) bounds) ∙ q) in
     let same : b' ≡ bounded.Within h (sharper .0) (h + sharper .0 + 1) = told-bound-injective b' (handlerBoundOf (state m) cs s xs) handlers ∙ sharper .2 in
-    let given : BoundSays m cs s xs (bounded.Within h e k) =
-    subst (BoundSays m cs s xs) (sym (told-bound-injective b (boundOf (state m) cs s xs) bounds) ∙ q) (bound-says m cs s xs) in
+    let given : BoundSays (state m) cs s xs (bounded.Within h e k) =
+    subst (BoundSays (state m) cs s xs) (sym (told-bound-injective b (boundOf (state m) cs s xs) bounds) ∙ q) (bound-says m cs s xs) in
     rw same (refl, sharper .1, omega (arith, sharper .1, given .4)))
     (λ n. tt)
 
@@ -209,5 +207,5 @@ handler-bound-waits m cs s words b w after bounds waits =
     let xs = stepsOf words in
     keeps-told m cs s words b (handlerBoundOf (state m) cs s xs) w after bounds waits
     (λ h e k q.
-    let given : HandlerBoundSays m cs s xs (bounded.Within h e k) = subst (HandlerBoundSays m cs s xs) q (handler-bound-says m cs s xs) in
-    (rw (given .2, given .3) (wait-within m cs s xs (given .0) (given .1)), given .4))
+    let given : HandlerBoundSays (state m) cs s xs (bounded.Within h e k) = subst (HandlerBoundSays (state m) cs s xs) q (handler-bound-says m cs s xs) in
+    (rw (given .4, given .2, given .3) (wait-within (state m) cs s xs (given .0) (given .1)), given .4))

@@ -12,20 +12,21 @@ use Rattle.rules.specs.declared.Trigger.the-variants as trigger
 use Rattle.rules.specs.declared.Basis.the-variants as basis
 use Rattle.rules.specs.declared.Bounded.{Bounded}
 use Rattle.rules.specs.declared.Bounded.the-variants as bounded
-use Rattle.rules.specs.Image.{Image, state, pageByte, put, CICR, PPR, EIPR, EIMR, EIPLR, NICR}
-use Rattle.rules.specs.Table.{rows, rowPlace, existingBits}
+use Rattle.rules.specs.Image.{Image, pageByte, put, CICR, PPR, EIPR, EIMR, EIPLR, NICR}
 use Rattle.rules.specs.Channels.{idcrByte, ivrByte, dcprByte, daprByte, dataByte, recordsOk, member, distinct, allBytes, listOk}
+use Rattle.rules.specs.Table.{rows, rowPlace, existingBits}
+use Rattle.rules.specs.Outcomes.{state}
 use Rattle.rules.specs.Registers.{pageZero, recordPlace, recordsPlace, placeOf, readOf, storedByte, lostBits, writeAt, writeOf, resetByte, resetRow, resetRows, resetOf}
 use Rattle.rules.specs.Sources.{sources, pendingBit, pending, unmasked, dmaEnabled, externalLevel, level}
-use Rattle.rules.specs.Triggers.{triggerVerdict, selects, selectsTop, sourceEffect, raiseSource, topEffect, raiseTop, fire, triggerOf}
+use Rattle.rules.specs.Triggers.{triggerVerdict, selects, selectsTop, sourceEffect, raiseSource, topEffect, raiseTop, fired, triggerOf}
 use Rattle.rules.specs.Requests.{requestOf, eligible, isAt, wonBy, candidate, first, winnerOfKind, winnerAtLevel, winnerOf}
-use Rattle.rules.specs.Arbitration.{vectorOf, cleared, acknowledged, granted, topLevel, arbitration, arbitrateOf}
+use Rattle.rules.specs.Arbitration.{vectorOf, cleared, acknowledged, granted, topLevel, arbitrateOf}
 use Rattle.rules.specs.Return.{returned, returnOf}
 use Rattle.rules.specs.Steps.{lentVerdict, actOf, stepOf}
 use Rattle.rules.specs.Runs.{until, waitVerdict, Event, anyEvent, counted, history, acknowledgedIn, arbitrationsIn}
-use Rattle.rules.specs.Waiting.{outranks, rival, countBelow, pendingOf, H, E, Start}
+use Rattle.rules.specs.Demand3.{outranks, rival, countBelow, pendingOf, H, E, Start}
 use Rattle.rules.specs.Handlers.{raised, raisedOf, Handles, upTo}
-use Rattle.rules.specs.Bounds.{anyBelow, calmElse, sourceElse}
+use Rattle.rules.specs.Bounds.{anyBelow, calmPremises, sourcePremises}
 use Rattle.rules.specs.HandlerBounds.{changes, firstChanged, brokenStep, brokenBy, firstBroken, handlerBoundIn, handlerBoundOf}
 use Rattle.rules.specs.Examples.{image, channel, _↤_}
 use Rattle.rules.proofs.HandlerBoundLaws.{handler-premises}
@@ -55,7 +56,7 @@ pub handlers-tight :
     × (H start channels ours + E start channels ours events ≡ 2)
     × (arbitrationsIn (take 17 events) ≡ 5) × (acknowledgedIn ours (take 17 events) ≡ false)
     × (arbitrationsIn events ≡ 6) × (acknowledgedIn ours events ≡ true)
-unfolding start image digit bit putBit pageByte put idcrByte ivrByte dcprByte daprByte dataByte recordsOk member distinct allBytes listOk sources pendingBit pending unmasked dmaEnabled externalLevel level triggerVerdict selects selectsTop sourceEffect raiseSource topEffect raiseTop fire triggerOf requestOf eligible isAt wonBy candidate first winnerOfKind winnerAtLevel winnerOf vectorOf cleared acknowledged granted topLevel arbitration arbitrateOf returned returnOf lentVerdict actOf stepOf history outranks rival countBelow pendingOf anyEvent counted until rows existingBits pageZero recordPlace recordsPlace placeOf readOf storedByte lostBits writeAt writeOf raised raisedOf anyBelow changes firstChanged brokenStep brokenBy firstBroken calmElse sourceElse waitVerdict handlerBoundIn handlerBoundOf
+unfolding start image digit bit putBit pageByte put idcrByte ivrByte dcprByte daprByte dataByte recordsOk member distinct allBytes listOk sources pendingBit pending unmasked dmaEnabled externalLevel level triggerVerdict selects selectsTop sourceEffect raiseSource topEffect raiseTop fired triggerOf requestOf eligible isAt wonBy candidate first winnerOfKind winnerAtLevel winnerOf vectorOf cleared acknowledged granted topLevel arbitrateOf returned returnOf lentVerdict actOf stepOf history outranks rival countBelow pendingOf anyEvent counted until rows existingBits pageZero recordPlace recordsPlace placeOf readOf storedByte lostBits writeAt writeOf raised raisedOf anyBelow changes firstChanged brokenStep brokenBy firstBroken calmPremises sourcePremises waitVerdict handlerBoundIn handlerBoundOf
 handlers-tight =
     let bound : handlerBoundOf (state start) channels ours steps ≡ bounded.Within 1 4 6 = refl in
     let p = handler-premises start channels ours steps 1 4 6 bound in
@@ -82,5 +83,5 @@ pub changed-answers :
     ∷ bounded.Changed basis.DmaEnable 1 ∷ bounded.Changed basis.Level 1
     ∷ bounded.OtherStep 0 ∷ bounded.InterruptsDisabled 1
     ∷ bounded.Changed basis.Mode 0 ∷ bounded.Changed basis.Mask 1 ∷ bounded.Within 1 0 2 ∷ [])
-unfolding start image digit bit putBit pageByte put idcrByte ivrByte dcprByte daprByte dataByte recordsOk member distinct allBytes listOk sources pendingBit pending unmasked dmaEnabled externalLevel level triggerVerdict selects selectsTop sourceEffect raiseSource topEffect raiseTop fire triggerOf requestOf eligible isAt wonBy candidate first winnerOfKind winnerAtLevel winnerOf vectorOf cleared acknowledged granted topLevel arbitration arbitrateOf returned returnOf lentVerdict actOf stepOf history outranks rival countBelow pendingOf anyEvent counted until rows existingBits pageZero recordPlace recordsPlace placeOf readOf storedByte lostBits writeAt writeOf raised raisedOf anyBelow changes firstChanged brokenStep brokenBy firstBroken calmElse sourceElse waitVerdict handlerBoundIn handlerBoundOf rowPlace resetByte resetRow resetRows resetOf
+unfolding start image digit bit putBit pageByte put idcrByte ivrByte dcprByte daprByte dataByte recordsOk member distinct allBytes listOk sources pendingBit pending unmasked dmaEnabled externalLevel level triggerVerdict selects selectsTop sourceEffect raiseSource topEffect raiseTop fired triggerOf requestOf eligible isAt wonBy candidate first winnerOfKind winnerAtLevel winnerOf vectorOf cleared acknowledged granted topLevel arbitrateOf returned returnOf lentVerdict actOf stepOf history outranks rival countBelow pendingOf anyEvent counted until rows existingBits pageZero recordPlace recordsPlace placeOf readOf storedByte lostBits writeAt writeOf raised raisedOf anyBelow changes firstChanged brokenStep brokenBy firstBroken calmPremises sourcePremises waitVerdict handlerBoundIn handlerBoundOf rowPlace resetByte resetRow resetRows resetOf
 changed-answers = refl

@@ -1,5 +1,5 @@
 -- A channel list that is lent as bytes. Assumes nothing.
-use mathlib.Core.Path.{_≡_, refl, sym, ap, ap₂, _∙_}
+use mathlib.Core.Path.{_≡_, refl, ap, _∙_}
 use mathlib.Core.Logic.{_≢_}
 use mathlib.Core.List.{List, [], _∷_}
 use mathlib.Core.Bool.{false}
@@ -9,7 +9,8 @@ use lib.ListN.{length, getD, drop}
 use lib.Seq.{drop-drop}
 use borrow.Author.Tests.{eq-eqb, ne-eqb}
 use Rattle.rules.specs.declared.Channel.{Channel}
-use Rattle.rules.specs.Channels.{noChannel, recordLength, bytesOf, recordIn, recordsIn, listIn, listOk}
+use Rattle.rules.specs.Channels.{noChannel, listOk}
+use Rattle.rules.specs.Encodings.{recordLength, bytesOf, recordIn, recordsIn, listIn}
 use Rattle.rules.proofs.ListLaws.{list-long}
 
 -- ---- a whole number of records

@@ -16,8 +16,8 @@ use Rattle.rules.specs.declared.Channel.{Channel}
 use Rattle.rules.specs.declared.Place.{Place}
 use Rattle.rules.specs.declared.Place.the-variants.{At, Unmodelled}
 use Rattle.rules.specs.Image.{Image, at, pageByte, CICR, PPR, MODER, EITR, EIPR, EIMR, EIPLR, EIVR, NICR, MARK}
-use Rattle.rules.specs.Table.{rows, existingBits}
 use Rattle.rules.specs.Channels.{recordAt, idcrByte, ivrByte, dcprByte, daprByte, dataByte, between, listOk}
+use Rattle.rules.specs.Table.{rows, existingBits}
 use Rattle.rules.specs.Registers.{pageOf, pageZero, recordPlace, orPlace, recordsPlace, placeOf}
 use Rattle.rules.proofs.Bools.{cond-elim, true-or}
 use Rattle.rules.proofs.ChannelLaws.{registerByte, registerNumber, register-byte, record-in-range, record-ok, registers-apart}

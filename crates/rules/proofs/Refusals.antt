@@ -4,8 +4,7 @@ use mathlib.Core.Path.{_≡_, refl, sym, ap, subst, _∙_}
 use mathlib.Core.Logic.{_≢_}
 use mathlib.Core.Bool.{Bool, true, false, false≢true, cond, _||_}
 use mathlib.Core.List.{List}
-use mathlib.Core.Option.{Option}
-use Prim.Native.Nat.{ℕ, _%_}
+use Prim.Native.Nat.{ℕ, _%_, _+_}
 use lib.Dec.{eqb, ltb}
 use lib.ListN.{length}
 use borrow.Author.Tests.{eq-eqb, ne-eqb, eqb-true, eqb-false}
@@ -22,17 +21,19 @@ use Rattle.rules.specs.declared.Refusal.{Refusal}
 use Rattle.rules.specs.declared.Refusal.the-variants as refusal
 use Rattle.rules.specs.declared.Verdict.{Verdict}
 use Rattle.rules.specs.declared.Verdict.the-variants as verdict
-use Rattle.rules.specs.Image.{Image, State, state, imageLength, at, inService}
+use Rattle.rules.specs.declared.Trigger.{Trigger}
+use Rattle.rules.specs.Image.{Image, imageLength, at, inService}
 use Rattle.rules.specs.Channels.{listOk, dcprByte}
-use Rattle.rules.specs.Outcomes.{Change, change, outcome, changed, verdictOf, refuses, isRefused}
+use Rattle.rules.specs.Outcomes.{State, state, Outcome, outcome, changed, verdictOf, refuses, isRefused}
 use Rattle.rules.specs.Registers.{writeAt, writeOf, resetOf, placeOf}
 use Rattle.rules.specs.Sources.{recordOf}
-use Rattle.rules.specs.Triggers.{triggerVerdict, selects, selectsTop, fire, triggerOf}
+use Rattle.rules.specs.Triggers.{triggerVerdict, selects, selectsTop, fired, triggerOf}
 use Rattle.rules.specs.Requests.{winnerOf}
 use Rattle.rules.specs.Transfer.{pairOf, lastRegister, served, transferOf}
-use Rattle.rules.specs.Arbitration.{granted, topLevel, enteredTop, arbitration, arbitrateOf}
+use Rattle.rules.specs.Arbitration.{granted, topLevel, enteredTop, arbitrateOf}
 use Rattle.rules.specs.Return.{returnOf}
-use Rattle.rules.specs.Steps.{lentVerdict, actOf, actIf, stepOf}
+use Rattle.rules.specs.Steps.{lentVerdict, actOf, stepOf}
+use Rattle.rules.proofs.Verdicts.{verdict-elim}
 use Rattle.rules.proofs.Bools.{cond-elim}
 
 -- ---- what is lent
@@ -81,10 +82,10 @@ lent-sound s cs v = subst (Lent s cs) v (lent-means s cs)
 -- ---- the rules below: what they refuse changes nothing
 
 -- a change that is refused is none
-abbrev Unchanged : Image → Change → Type 0
-Unchanged m c = isRefused (c .answer) ≡ true → c .image ≡ m
+abbrev Unchanged : Image → Outcome Answer Image → Type 0
+Unchanged m c = isRefused (c .answer) ≡ true → c .left ≡ m
 
-accepts : {m : Image} (c : Change) → verdictOf (c .answer) ≡ verdict.Accepted → Unchanged m c
+accepts : {m : Image} (c : Outcome Answer Image) → verdictOf (c .answer) ≡ verdict.Accepted → Unchanged m c
 accepts c e t = absurd (false≢true (sym (ap refuses e) ∙ t))
 
 write-kept : (m : Image) (p : Place) (v : ℕ) → Unchanged m (writeAt m p v)
@@ -92,16 +93,16 @@ unfolding writeAt
 write-kept m (At i e) v = accepts (writeAt m (At i e) v) refl
 write-kept m Unmodelled v = λ t. refl
 
-fire-kept : (m : Image) (cs : List Channel) (v : Verdict) (o : Option ℕ) (t : Bool) → Unchanged m (fire m cs v o t)
-unfolding fire
-fire-kept m cs verdict.Accepted o t = accepts (fire m cs verdict.Accepted o t) refl
-fire-kept m cs (verdict.Refused r) o t = λ e. refl
+trigger-kept : (m : Image) (cs : List Channel) (t : Trigger) → Unchanged m (triggerOf m cs t)
+unfolding triggerOf fired
+trigger-kept m cs t = verdict-elim (Unchanged m) (triggerVerdict cs t) (λ e. accepts (fired m cs (selects m t) (selectsTop m t)) refl) (λ r e f. refl)
 
 transfer-kept : (m : Image) (c : Channel) (s : ℕ) → Unchanged m (transferOf m c s)
 unfolding transferOf served
 transfer-kept m c s =
+    let n = pairOf m c in
     cond-elim (Unchanged m) (eqb (at m (dcprByte c) % 2) 0) (λ e t. refl)
-    (λ e. cond-elim (Unchanged m) (ltb lastRegister (pairOf m c) || ltb lastRegister (at m (pairOf m c))) (λ f t. refl) (λ f. accepts (served m c s) refl))
+    (λ e. cond-elim (Unchanged m) (ltb lastRegister n || ltb lastRegister (at m n)) (λ f t. refl) (λ f. accepts (served m c s n (at m n) (at m (n + 1))) refl))
 
 granted-kept : (m : Image) (cs : List Channel) (w : Winner) → Unchanged m (granted m cs w)
 unfolding granted
@@ -109,22 +110,22 @@ granted-kept m cs winner.Nobody = λ t. refl
 granted-kept m cs (winner.Dma s) = transfer-kept m (recordOf cs s) s
 granted-kept m cs (winner.Interrupt s l) = accepts (granted m cs (winner.Interrupt s l)) refl
 
-arbitration-kept : (m : Image) (cs : List Channel) → Unchanged m (arbitration m cs)
-unfolding arbitration
+arbitration-kept : (m : Image) (cs : List Channel) → Unchanged m (arbitrateOf m cs)
+unfolding arbitrateOf
 arbitration-kept m cs =
     cond-elim (Unchanged m) (inService m) (λ e t. refl)
-    (λ e. cond-elim (Unchanged m) (topLevel m) (λ f. accepts (change answer.TopLevel (enteredTop m)) refl) (λ f. granted-kept m cs (winnerOf m cs)))
+    (λ e. cond-elim (Unchanged m) (topLevel m) (λ f. accepts (outcome answer.TopLevel (enteredTop m)) refl) (λ f. granted-kept m cs (winnerOf m cs)))
 
-of-image : (s : State) (c : Change) → Unchanged (s .image) c → isRefused (c .answer) ≡ true → changed s c .state ≡ s
+of-image : (s : State) (c : Outcome Answer Image) → Unchanged (s .image) c → isRefused (c .answer) ≡ true → changed s c .left ≡ s
 of-image s c h e = ap state (h e)
 
-act-kept : (s : State) (cs : List Channel) (x : Step) → isRefused (actOf s cs x .answer) ≡ true → actOf s cs x .state ≡ s
-unfolding actOf writeOf triggerOf arbitrateOf returnOf resetOf
+act-kept : (s : State) (cs : List Channel) (x : Step) → isRefused (actOf s cs x .answer) ≡ true → actOf s cs x .left ≡ s
+unfolding actOf writeOf returnOf resetOf
 act-kept s cs (step.Read r) = λ e. refl
 act-kept s cs (step.Write r v) = of-image s (writeOf (s .image) cs r v) (write-kept (s .image) (placeOf (s .image) cs r) v)
 act-kept s cs (step.Trigger t) =
-    of-image s (triggerOf (s .image) cs t) (fire-kept (s .image) cs (triggerVerdict cs t) (selects (s .image) t) (selectsTop (s .image) t))
-act-kept s cs step.Arbitrate = of-image s (arbitration (s .image) cs) (arbitration-kept (s .image) cs)
+    of-image s (triggerOf (s .image) cs t) (trigger-kept (s .image) cs t)
+act-kept s cs step.Arbitrate = of-image s (arbitrateOf (s .image) cs) (arbitration-kept (s .image) cs)
 act-kept s cs step.Return = of-image s (returnOf (s .image)) (accepts (returnOf (s .image)) refl)
 act-kept s cs step.Reset = of-image s (resetOf (s .image)) (accepts (resetOf (s .image)) refl)
 act-kept s cs step.Unknown = λ e. refl
@@ -146,29 +147,26 @@ refused-is answer.Reset e = absurd (false≢true e)
 refused-is (answer.Refused r) e = (r, refl)
 
 -- a refused step changes nothing, whatever the image, the list and the step are
-pub refused-same : (s : State) (cs : List Channel) (x : Step) → isRefused (stepOf s cs x .answer) ≡ true → stepOf s cs x .state ≡ s
+pub refused-same : (s : State) (cs : List Channel) (x : Step) → isRefused (stepOf s cs x .answer) ≡ true → stepOf s cs x .left ≡ s
 unfolding stepOf
-refused-same s cs x = go (lentVerdict s cs)
-  where
-    go : (v : Verdict) → isRefused (actIf v s cs x .answer) ≡ true → actIf v s cs x .state ≡ s
-    go verdict.Accepted = act-kept s cs x
-    go (verdict.Refused r) = λ e. refl
+refused-same s cs x =
+    verdict-elim (λ (o : Outcome Answer State). isRefused (o .answer) ≡ true → o .left ≡ s) (lentVerdict s cs) (λ v. act-kept s cs x) (λ r v e. refl)
 
 -- refusal 1 comes first
 pub length-first : (s : State) (cs : List Channel) (x : Step) → length (s .image) ≢ imageLength → stepOf s cs x ≡ outcome (answer.Refused refusal.Length) s
 unfolding stepOf
-length-first s cs x h = ap (λ (v : Verdict). actIf v s cs x) (lent-length s cs h)
+length-first s cs x h = rw (lent-length s cs h)
 
 -- refusal 2 next
 pub list-second : (s : State) (cs : List Channel) (x : Step) → length (s .image) ≡ imageLength → listOk cs ≡ false
     → stepOf s cs x ≡ outcome (answer.Refused refusal.List) s
 unfolding stepOf
-list-second s cs x h l = ap (λ (v : Verdict). actIf v s cs x) (lent-list s cs h l)
+list-second s cs x h l = rw (lent-list s cs h l)
 
 -- otherwise the step is what its own rules say
 pub accepted-acts : (s : State) (cs : List Channel) (x : Step) → length (s .image) ≡ imageLength → listOk cs ≡ true → stepOf s cs x ≡ actOf s cs x
 unfolding stepOf
-accepted-acts s cs x h l = ap (λ (v : Verdict). actIf v s cs x) (lent-accepted s cs h l)
+accepted-acts s cs x h l = rw (lent-accepted s cs h l)
 
 -- a step of unknown kind is then refused with 7
 pub unknown-step : (s : State) (cs : List Channel) → length (s .image) ≡ imageLength → listOk cs ≡ true

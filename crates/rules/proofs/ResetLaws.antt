@@ -17,7 +17,7 @@ use Rattle.rules.specs.declared.Answer.the-variants as answer
 use Rattle.rules.specs.Image.{Image, imageLength, at, CICR, MODER, EITR, EIPR, EIMR, EIPLR, EIVR, NICR, MARK}
 use Rattle.rules.specs.Channels.{between}
 use Rattle.rules.specs.Table.{Row, rows, rowAt, rowCount, rowPlace}
-use Rattle.rules.specs.Outcomes.{change}
+use Rattle.rules.specs.Outcomes.{outcome}
 use Rattle.rules.specs.Registers.{resetByte, resetRow, resetRows, resetOf}
 use Rattle.rules.proofs.Bools.{and-l, and-r, or-cases}
 use Rattle.rules.proofs.ImageLaws.{at-any}
@@ -193,34 +193,34 @@ unfolding resetOf
 reset-answer m = refl
 
 -- and leaves an image as long
-pub reset-length : (m : Image) → length (resetOf m .image) ≡ length m
+pub reset-length : (m : Image) → length (resetOf m .left) ≡ length m
 unfolding resetOf
 reset-length m = length-set (resetRows rowCount m) MARK 0 ∙ rows-length rowCount m
 
 -- a byte that is no row's and not the mark stays
-pub reset-elsewhere : (m : Image) (i : ℕ) → ((k : ℕ) → k < rowCount → i ≢ rowPlace k) → i ≢ MARK → at (resetOf m .image) i ≡ at m i
+pub reset-elsewhere : (m : Image) (i : ℕ) → ((k : ℕ) → k < rowCount → i ≢ rowPlace k) → i ≢ MARK → at (resetOf m .left) i ≡ at m i
 unfolding resetOf
 reset-elsewhere m i d n = getD-set-other (resetRows rowCount m) MARK i 0 0 n ∙ rows-fixed rowCount m i (λ k h e. absurd (d k h e))
 
 module _ (m : Image) (long : length m ≡ imageLength) where
   -- each row's byte
-  pub reset-row : (k : ℕ) → k < rowCount → at (resetOf m .image) (rowPlace k) ≡ resetByte (rowAt k) (at m (rowPlace k))
+  pub reset-row : (k : ℕ) → k < rowCount → at (resetOf m .left) (rowPlace k) ≡ resetByte (rowAt k) (at m (rowPlace k))
   unfolding resetOf
   reset-row k h =
       getD-set-other (resetRows rowCount m) MARK (rowPlace k) 0 0 (omega (arith, row-below k h)) ∙ rows-done rowCount m k (omega arith) long h
 
   -- reset changes exactly the bits of the row's mask, and gives them the row's value
   pub reset-bit : (k j : ℕ) → k < rowCount → j < 8
-      → bit j (at (resetOf m .image) (rowPlace k)) ≡ cond (bit j (rowAt k .reset)) (bit j (rowAt k .value)) (bit j (at m (rowPlace k)))
+      → bit j (at (resetOf m .left) (rowPlace k)) ≡ cond (bit j (rowAt k .reset)) (bit j (rowAt k .value)) (bit j (at m (rowPlace k)))
   reset-bit k j hk hj = ap (bit j) (reset-row k hk) ∙ mask-bit (rowAt k) j (at m (rowPlace k)) hj (masks k j hk hj)
 
   -- reset clears the mark
-  pub reset-mark : at (resetOf m .image) MARK ≡ 0
+  pub reset-mark : at (resetOf m .left) MARK ≡ 0
   unfolding resetOf
   reset-mark = getD-set-same (resetRows rowCount m) MARK 0 0 (omega (arith, rows-length rowCount m))
 
   -- the table's last column
-  pub after-reset : at m EIVR < 256 → AfterReset m (resetOf m .image)
+  pub after-reset : at m EIVR < 256 → AfterReset m (resetOf m .left)
   unfolding rows rowPlace resetByte
   after-reset b = record {
     cicr = whole 6 (omega arith) refl;
@@ -235,22 +235,22 @@ module _ (m : Image) (long : length m ≡ imageLength) where
     mark = reset-mark;
   }
     where
-      whole : (k : ℕ) → k < rowCount → rowAt k .reset ≡ 255 → at (resetOf m .image) (rowPlace k) ≡ rowAt k .value
+      whole : (k : ℕ) → k < rowCount → rowAt k .reset ≡ 255 → at (resetOf m .left) (rowPlace k) ≡ rowAt k .value
       whole k h e = reset-row k h ∙ byte-set (rowAt k) (at m (rowPlace k)) e
 
   -- everything else stays as stored: R0 to R223, PPR and the thirteen other system registers, the rest of page 0, pages 1 to 63
-  pub reset-kept : (i : ℕ) → at m i < 256 → Beyond i → at (resetOf m .image) i ≡ at m i
+  pub reset-kept : (i : ℕ) → at m i < 256 → Beyond i → at (resetOf m .left) i ≡ at m i
   unfolding resetOf
   reset-kept i h b =
       getD-set-other (resetRows rowCount m) MARK i 0 0 (b .3)
       ∙ rows-fixed rowCount m i (λ k g e. let w = kept-row k g (rw e at b) in byte-kept (rowAt k) (at m i) h (w .0) (w .1))
 
   -- reset twice is reset once
-  pub reset-twice : ((i : ℕ) → at m i < 256) → resetOf (resetOf m .image) ≡ resetOf m
+  pub reset-twice : ((i : ℕ) → at m i < 256) → resetOf (resetOf m .left) ≡ resetOf m
   unfolding resetOf
   reset-twice bytes =
-      ap (λ (l : Image). change answer.Reset (set l MARK 0)) (rows-twice rowCount (omega arith) (resetOf m .image) fixed)
-      ∙ ap (change answer.Reset) (ap (set (resetOf m .image) MARK) (sym reset-mark) ∙ set-getD (resetOf m .image) MARK 0)
+      ap (λ (l : Image). outcome answer.Reset (set l MARK 0)) (rows-twice rowCount (omega arith) (resetOf m .left) fixed)
+      ∙ ap (outcome answer.Reset) (ap (set (resetOf m .left) MARK) (sym reset-mark) ∙ set-getD (resetOf m .left) MARK 0)
     where
-      fixed : (k : ℕ) → k < rowCount → resetByte (rowAt k) (at (resetOf m .image) (rowPlace k)) ≡ at (resetOf m .image) (rowPlace k)
+      fixed : (k : ℕ) → k < rowCount → resetByte (rowAt k) (at (resetOf m .left) (rowPlace k)) ≡ at (resetOf m .left) (rowPlace k)
       fixed k h = ap (resetByte (rowAt k)) (reset-row k h) ∙ byte-twice k (at m (rowPlace k)) h (bytes (rowPlace k)) ∙ sym (reset-row k h)

@@ -29,7 +29,7 @@ unfolding returnOf
 return-answer m = refl
 
 -- and leaves what is returned to
-pub return-image : (m : Image) → returnOf m .image ≡ returned m
+pub return-image : (m : Image) → returnOf m .left ≡ returned m
 unfolding returnOf
 return-image m = refl
 

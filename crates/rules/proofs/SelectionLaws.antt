@@ -20,8 +20,8 @@ use Rattle.rules.specs.declared.Verdict.the-variants as verdict
 use Rattle.rules.specs.Image.{Image, at, has, bitOf, EITR, EIVR, TLIS, IAOS}
 use Rattle.rules.specs.Outcomes.{refuses}
 use Rattle.rules.specs.Sources.{sources}
-use Rattle.rules.specs.Triggers.{triggerVerdict, edge, selectIf, selects, selectsTop}
-use Rattle.rules.specs.Waiting.{within}
+use Rattle.rules.specs.Triggers.{triggerVerdict, edge, selects, selectsTop}
+use Rattle.rules.specs.Demand3.{within}
 use Rattle.rules.proofs.Bools.{impossible, or-off}
 
 -- ---- which bits are selected
@@ -51,7 +51,7 @@ module _ (m : Image) where
   unfolding selects
   zero-by-one = rw (edge-digit (digit 0 (at m EITR)) EITR 0, eq-eqb (digit 0 (at m EITR)) (digit 0 (at m EITR)) refl) (go (has m IAOS))
     where
-      go : (b : Bool) → within (λ j. eqb j 0) (selectIf b 0) ≡ not (within (λ j. eqb j 0) (selectIf (not b) 0))
+      go : (b : Bool) → within (λ j. eqb j 0) (cond b (some 0) none) ≡ not (within (λ j. eqb j 0) (cond (not b) (some 0) none))
       go true = refl
       go false = refl
 
@@ -116,9 +116,9 @@ module _ (cs : List Channel) where
 -- ---- what is selected is there
 
 -- what a test selects is its source
-pub selectIf-some : (b : Bool) (k s : ℕ) → selectIf b k ≡ some s → k ≡ s
-selectIf-some true k s e = cc
-selectIf-some false k s e = impossible (cc)
+pub selected-is : (b : Bool) (k s : ℕ) → cond b (some k) none ≡ some s → k ≡ s
+selected-is true k s e = cc
+selected-is false k s e = impossible (cc)
 
 not-refused : (b : Bool) (r : Refusal) → cond b (verdict.Refused r) verdict.Accepted ≡ verdict.Accepted → b ≡ false
 not-refused true r e = absurd (true≢false (ap refuses e))
@@ -135,9 +135,9 @@ selected-there m cs (trigger.Pin k d) v s e =
     omega (
       arith,
       ltb-false 7 k (or-off (ltb 7 k) (ltb 1 d) (not-refused (ltb 7 k || ltb 1 d) refusal.Number v)),
-      selectIf-some (edge d (has m (bitOf EITR k)) && (not (eqb k 0) || has m IAOS)) k s e,
+      selected-is (edge d (has m (bitOf EITR k)) && (not (eqb k 0) || has m IAOS)) k s e,
     )
-selected-there m cs trigger.Watchdog v s e = omega (arith, selectIf-some (not (has m IAOS)) 0 s e)
+selected-there m cs trigger.Watchdog v s e = omega (arith, selected-is (not (has m IAOS)) 0 s e)
 selected-there m cs (trigger.Nmi d) v s e = impossible (cc)
 selected-there m cs (trigger.Request k) v s e =
     let f : 8 + k ≡ s = cc in omega (arith, ltb-true k (length cs) (accepted-if (ltb k (length cs)) refusal.Number v))

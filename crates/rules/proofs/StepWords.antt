@@ -10,7 +10,7 @@ use Rattle.rules.specs.declared.Trigger.{Trigger}
 use Rattle.rules.specs.declared.Trigger.the-variants as trigger
 use Rattle.rules.specs.declared.Step.{Step}
 use Rattle.rules.specs.declared.Step.the-variants as step
-use Rattle.rules.specs.Steps.{kindField, triggerField, firstField, secondField, triggerBy, stepBy, decodeOf, stepsOf}
+use Rattle.rules.specs.Encodings.{kindField, triggerField, firstField, secondField, triggerBy, stepBy, decodeOf, stepsOf}
 
 -- the word of a kind, a trigger kind, a first and a second field
 abbrev pub word : ℕ → ℕ → ℕ → ℕ → ℕ

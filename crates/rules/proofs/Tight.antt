@@ -4,6 +4,7 @@ use mathlib.Core.Path.{_≡_, refl, ap₂, _∙_}
 use mathlib.Core.Bool.{true, false, not}
 use mathlib.Core.List.{List, [], _∷_, _++_}
 use Prim.Native.Nat.{ℕ, _+_}
+use native.Mathlib.Omega.{arith}
 use lib.Dec.{lit<}
 use lib.ListN.{take, drop}
 use Rattle.bits.specs.Bits.{digit, bit, putBit}
@@ -14,18 +15,20 @@ use Rattle.rules.specs.declared.Step.the-variants as step
 use Rattle.rules.specs.declared.Trigger.the-variants as trigger
 use Rattle.rules.specs.declared.Waited.the-variants as waited
 use Rattle.rules.specs.declared.Bounded.the-variants as bounded
-use Rattle.rules.specs.Image.{Image, state, pageByte, put, CICR, EIPR, EIMR, EIPLR}
+use Rattle.rules.specs.Image.{Image, pageByte, put, CICR, EIPR, EIMR, EIPLR}
 use Rattle.rules.specs.Channels.{idcrByte, ivrByte, dcprByte, daprByte, dataByte, recordsOk, member, distinct, allBytes, listOk}
+use Rattle.rules.specs.Outcomes.{state}
 use Rattle.rules.specs.Sources.{sources, pendingBit, pending, unmasked, dmaEnabled, externalLevel, level}
-use Rattle.rules.specs.Triggers.{triggerVerdict, selects, selectsTop, sourceEffect, raiseSource, topEffect, raiseTop, fire, triggerOf}
+use Rattle.rules.specs.Triggers.{triggerVerdict, selects, selectsTop, sourceEffect, raiseSource, topEffect, raiseTop, fired, triggerOf}
 use Rattle.rules.specs.Requests.{requestOf, eligible, isAt, wonBy, candidate, first, winnerOfKind, winnerAtLevel, winnerOf}
-use Rattle.rules.specs.Arbitration.{vectorOf, cleared, acknowledged, granted, topLevel, arbitration, arbitrateOf}
+use Rattle.rules.specs.Arbitration.{vectorOf, cleared, acknowledged, granted, topLevel, arbitrateOf}
 use Rattle.rules.specs.Return.{returned, returnOf}
 use Rattle.rules.specs.Steps.{lentVerdict, actOf, stepOf}
-use Rattle.rules.specs.Runs.{until, lastAnswer, stateAfter, waitEvents, waitReport, waitVerdict, waitOf, Event, anyEvent, counted, history, acknowledgedIn, arbitrationsIn}
-use Rattle.rules.specs.Waiting.{outranks, rival, countBelow, pendingOf, H, E, Start, Calls}
+use Rattle.rules.specs.Runs.{until, lastAnswer, stateAfter, waitEvents, waitAnswer, waitVerdict, waitOf, Event, anyEvent, counted, history, acknowledgedIn, arbitrationsIn}
+use Rattle.rules.specs.Demand3.{outranks, rival, countBelow, pendingOf, H, E, Start, OnlyCalls}
 use Rattle.rules.specs.Bounds.{boundOf}
 use Rattle.rules.specs.Examples.{image, channel, _↤_}
+use Rattle.rules.proofs.Demand3.{demand3}
 use Rattle.rules.proofs.BoundLaws.{none-calls, bound-given}
 
 -- CPL is 7, IEN 0 and TLIP 1. INTA0, the record and INTB0 are at level 0, INTA1 and INTB1 at level 1; all five are pending, and all but INTB0
@@ -79,11 +82,19 @@ starts =
     }
 
 -- a start and a list of calls as demand 3 asks, with H = 2 and E = 2: ours is not acknowledged among the first four arbitrations, and is by the fifth
-pub tight : Start start channels ours × Calls events × (H start channels ours ≡ 2) × (E start channels ours events ≡ 2)
+pub tight : Start start channels ours × OnlyCalls events × (H start channels ours ≡ 2) × (E start channels ours events ≡ 2)
     × (arbitrationsIn (take 15 events) ≡ 4) × (acknowledgedIn ours (take 15 events) ≡ false)
     × (arbitrationsIn events ≡ 5) × (acknowledgedIn ours events ≡ true)
-unfolding start image digit bit putBit pageByte put idcrByte ivrByte dcprByte daprByte dataByte recordsOk member distinct allBytes listOk sources pendingBit pending unmasked dmaEnabled externalLevel level triggerVerdict selects selectsTop sourceEffect raiseSource topEffect raiseTop fire triggerOf requestOf eligible isAt wonBy candidate first winnerOfKind winnerAtLevel winnerOf vectorOf cleared acknowledged granted topLevel arbitration arbitrateOf returned returnOf lentVerdict actOf stepOf history outranks rival countBelow pendingOf anyEvent counted
+unfolding start image digit bit putBit pageByte put idcrByte ivrByte dcprByte daprByte dataByte recordsOk member distinct allBytes listOk sources pendingBit pending unmasked dmaEnabled externalLevel level triggerVerdict selects selectsTop sourceEffect raiseSource topEffect raiseTop fired triggerOf requestOf eligible isAt wonBy candidate first winnerOfKind winnerAtLevel winnerOf vectorOf cleared acknowledged granted topLevel arbitrateOf returned returnOf lentVerdict actOf stepOf history outranks rival countBelow pendingOf anyEvent counted
 tight = (starts, none-calls events refl refl, refl, refl, refl, refl, refl, refl)
+
+fifth : arbitrationsIn (take 16 events) ≡ 5
+unfolding start image digit bit putBit pageByte put idcrByte ivrByte dcprByte daprByte dataByte recordsOk member distinct allBytes listOk sources pendingBit pending unmasked dmaEnabled externalLevel level triggerVerdict selects selectsTop sourceEffect raiseSource topEffect raiseTop fired triggerOf requestOf eligible isAt wonBy candidate first winnerOfKind winnerAtLevel winnerOf vectorOf cleared acknowledged granted topLevel arbitrateOf returned returnOf lentVerdict actOf stepOf history outranks rival countBelow pendingOf anyEvent counted
+fifth = refl
+
+-- and demand 3 promises no later one: ours is acknowledged by the fifth arbitration, which the first sixteen calls have
+pub demand3-tight : acknowledgedIn ours (take 16 events) ≡ true
+demand3-tight = demand3 (state start) channels ours steps (tight .0) (tight .1) 16 .0 (omega (arith, tight .2, tight .3, fifth))
 
 -- the bound that is answered for it is H + E + 1
 pub bound-tight : boundOf (state start) channels ours steps ≡ bounded.Within 2 2 5
@@ -95,8 +106,8 @@ bound-tight =
 abbrev pub accepted : List Step
 accepted = take 6 steps ++ drop 7 steps
 
-pub wait-tight : Calls (waitEvents (state start) channels ours accepted)
+pub wait-tight : OnlyCalls (waitEvents (state start) channels ours accepted)
     × (H start channels ours + E start channels ours (waitEvents (state start) channels ours accepted) ≡ 4)
     × (waitOf (state start) channels ours accepted .answer ≡ waited.Acknowledged 5)
-unfolding start image digit bit putBit pageByte put idcrByte ivrByte dcprByte daprByte dataByte recordsOk member distinct allBytes listOk sources pendingBit pending unmasked dmaEnabled externalLevel level triggerVerdict selects selectsTop sourceEffect raiseSource topEffect raiseTop fire triggerOf requestOf eligible isAt wonBy candidate first winnerOfKind winnerAtLevel winnerOf vectorOf cleared acknowledged granted topLevel arbitration arbitrateOf returned returnOf lentVerdict actOf stepOf history outranks rival countBelow pendingOf anyEvent counted until lastAnswer stateAfter waitReport waitVerdict waitOf
+unfolding start image digit bit putBit pageByte put idcrByte ivrByte dcprByte daprByte dataByte recordsOk member distinct allBytes listOk sources pendingBit pending unmasked dmaEnabled externalLevel level triggerVerdict selects selectsTop sourceEffect raiseSource topEffect raiseTop fired triggerOf requestOf eligible isAt wonBy candidate first winnerOfKind winnerAtLevel winnerOf vectorOf cleared acknowledged granted topLevel arbitrateOf returned returnOf lentVerdict actOf stepOf history outranks rival countBelow pendingOf anyEvent counted until lastAnswer stateAfter waitAnswer waitVerdict waitOf
 wait-tight = (none-calls (waitEvents (state start) channels ours accepted) refl refl, refl, refl)

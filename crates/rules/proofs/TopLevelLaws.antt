@@ -17,10 +17,10 @@ use Rattle.rules.specs.declared.Answer.the-variants as answer
 use Rattle.rules.specs.declared.Winner.the-variants as winner
 use Rattle.rules.specs.Image.{Image, imageLength, at, has, put, inService, bitOf, CPL, IEN, TLI, TLIP, TLNM, CICR, MARK}
 use Rattle.rules.specs.Channels.{recordAt}
-use Rattle.rules.specs.Outcomes.{change}
+use Rattle.rules.specs.Outcomes.{outcome}
 use Rattle.rules.specs.Requests.{winnerOf}
 use Rattle.rules.specs.Transfer.{transferOf}
-use Rattle.rules.specs.Arbitration.{vectorOf, acknowledged, granted, topLevel, enteredTop, arbitration}
+use Rattle.rules.specs.Arbitration.{vectorOf, acknowledged, granted, topLevel, enteredTop, arbitrateOf}
 use Rattle.rules.specs.Return.{returned}
 use Rattle.rules.proofs.PendingLaws.{record-of}
 use Rattle.rules.proofs.ImageLaws.{put-length, at-put-other, has-put-same, has-put-other, low-put}
@@ -28,8 +28,8 @@ use Rattle.rules.proofs.ImageLaws.{put-length, at-put-other, has-put-sa
 -- ---- the mark, the top level, and what is left to the winner
 
 -- rule 1: with the mark set an arbitration answers Nothing and changes nothing, whatever is pending
-pub mark-first : (m : Image) (cs : List Channel) → inService m ≡ true → arbitration m cs ≡ change answer.Nothing m
-unfolding arbitration
+pub mark-first : (m : Image) (cs : List Channel) → inService m ≡ true → arbitrateOf m cs ≡ outcome answer.Nothing m
+unfolding arbitrateOf
 mark-first m cs t = rw t
 
 -- rule 2, by TLIP and TLNM: never without TLIP; with both, whatever TLI and IEN are; with TLIP alone, exactly with TLI and IEN
@@ -43,10 +43,10 @@ top-level-when m = (λ p. rw p, λ p n. rw (p, n), λ p n. rw (p, n) (and-comm (
 -- rules 3 to 5, with neither: where nobody has won nothing changes; record k, as source 8 + k, gets its transfer;
 -- an interrupt is answered with its source, level and vector, and acknowledged
 pub winner-gets : (m : Image) (cs : List Channel) → inService m ≡ false → topLevel m ≡ false
-    → (winnerOf m cs ≡ winner.Nobody → arbitration m cs ≡ change answer.Nothing m)
-    × ((k : ℕ) → winnerOf m cs ≡ winner.Dma (8 + k) → arbitration m cs ≡ transferOf m (recordAt cs k) (8 + k))
-    × ((s l : ℕ) → winnerOf m cs ≡ winner.Interrupt s l → arbitration m cs ≡ change (answer.Interrupt s l (vectorOf m cs s)) (acknowledged m cs s l))
-unfolding arbitration granted
+    → (winnerOf m cs ≡ winner.Nobody → arbitrateOf m cs ≡ outcome answer.Nothing m)
+    × ((k : ℕ) → winnerOf m cs ≡ winner.Dma (8 + k) → arbitrateOf m cs ≡ transferOf m (recordAt cs k) (8 + k))
+    × ((s l : ℕ) → winnerOf m cs ≡ winner.Interrupt s l → arbitrateOf m cs ≡ outcome (answer.Interrupt s l (vectorOf m cs s)) (acknowledged m cs s l))
+unfolding arbitrateOf granted
 winner-gets m cs i t = (
   λ w. rw (i, t, w),
   λ k w. rw (i, t, w, record-of cs k),
@@ -56,46 +56,46 @@ winner-gets m cs i t = (
 -- ---- entering the top level
 
 module _ (m : Image) (cs : List Channel) (long : length m ≡ imageLength) (idle : inService m ≡ false) (top : topLevel m ≡ true) where
-  entered : arbitration m cs ≡ change answer.TopLevel (enteredTop m)
-  unfolding arbitration
+  entered : arbitrateOf m cs ≡ outcome answer.TopLevel (enteredTop m)
+  unfolding arbitrateOf
   entered = rw (idle, top)
 
   -- every bit of CICR stays but TLIP, IEN and TLI among them,
-  pub entered-CICR : (k : ℕ) → k < 8 → k ≢ 6 → has (arbitration m cs .image) (bitOf CICR k) ≡ has m (bitOf CICR k)
+  pub entered-CICR : (k : ℕ) → k < 8 → k ≢ 6 → has (arbitrateOf m cs .left) (bitOf CICR k) ≡ has m (bitOf CICR k)
   unfolding enteredTop
   entered-CICR k h d =
       rw entered (ap (bit k) (getD-set-other (put m TLIP false) MARK CICR 1 0 (λ e. omega arith))
       ∙ has-put-other m TLIP false (bitOf CICR k) (lit< tt) h (inr d))
 
   -- CPL so too,
-  pub entered-CPL : CPL (arbitration m cs .image) ≡ CPL m
+  pub entered-CPL : CPL (arbitrateOf m cs .left) ≡ CPL m
   unfolding enteredTop
   entered-CPL =
       rw entered (ap (λ (x : ℕ). x % 8) (getD-set-other (put m TLIP false) MARK CICR 1 0 (λ e. omega arith))
       ∙ low-put m TLIP false CICR (lit< tt) (inr (lit≤ tt)))
 
   -- and every byte but CICR and the mark
-  pub entered-byte : (j : ℕ) → j ≢ CICR → j ≢ MARK → at (arbitration m cs .image) j ≡ at m j
+  pub entered-byte : (j : ℕ) → j ≢ CICR → j ≢ MARK → at (arbitrateOf m cs .left) j ≡ at m j
   unfolding enteredTop
   entered-byte j c k = rw entered (getD-set-other (put m TLIP false) MARK j 1 0 k ∙ at-put-other m TLIP false j c)
 
   -- TLIP is 0,
-  pub entered-TLIP : has (arbitration m cs .image) TLIP ≡ false
+  pub entered-TLIP : has (arbitrateOf m cs .left) TLIP ≡ false
   unfolding enteredTop
   entered-TLIP =
       rw entered (ap (bit 6) (getD-set-other (put m TLIP false) MARK CICR 1 0 (λ e. omega arith))
       ∙ has-put-same m TLIP false (rw long (lit< tt)) (lit< tt))
 
   -- the mark is 1,
-  pub entered-mark : at (arbitration m cs .image) MARK ≡ 1
+  pub entered-mark : at (arbitrateOf m cs .left) MARK ≡ 1
   unfolding enteredTop
   entered-mark = rw entered (getD-set-same (put m TLIP false) MARK 1 0 (rw (put-length m TLIP false, long) (lit< tt)))
 
   -- and it is answered so
-  pub entered-answer : arbitration m cs .answer ≡ answer.TopLevel
+  pub entered-answer : arbitrateOf m cs .answer ≡ answer.TopLevel
   entered-answer = rw entered
 
-  entered-length : length (arbitration m cs .image) ≡ imageLength
+  entered-length : length (arbitrateOf m cs .left) ≡ imageLength
   unfolding enteredTop
   entered-length = rw entered (length-set (put m TLIP false) MARK 1 ∙ put-length m TLIP false ∙ long)
 
@@ -116,9 +116,9 @@ module _ (m : Image) (busy : inService m ≡ true) where
 
 module _ (m : Image) (cs : List Channel) (long : length m ≡ imageLength) (idle : inService m ≡ false) (top : topLevel m ≡ true) where
   abbrev pub afterBoth : Image
-  afterBoth = returned (arbitration m cs .image)
+  afterBoth = returned (arbitrateOf m cs .left)
 
-  busy : inService (arbitration m cs .image) ≡ true
+  busy : inService (arbitrateOf m cs .left) ≡ true
   busy = rw (entered-mark m cs long idle top)
 
   -- every byte is as before but CICR,
@@ -127,14 +127,14 @@ module _ (m : Image) (cs : List Channel) (long : length m ≡ imageLength) (idle
     where
       go : Dec (j ≡ MARK) → at afterBoth j ≡ at m j
       go (yes e) =
-          rw e (top-return-mark (arbitration m cs .image) busy (rw (entered-length m cs long idle top) (lit< tt))
+          rw e (top-return-mark (arbitrateOf m cs .left) busy (rw (entered-length m cs long idle top) (lit< tt))
           ∙ sym (eqb-true (at m MARK) 0 (not-false (eqb (at m MARK) 0) idle)))
-      go (no d) = top-return-byte (arbitration m cs .image) busy j d ∙ entered-byte m cs long idle top j c d
+      go (no d) = top-return-byte (arbitrateOf m cs .left) busy j d ∙ entered-byte m cs long idle top j c d
 
   -- and of CICR every bit but TLIP, which is 0
   pub enter-return-CICR : (k : ℕ) → k < 8 → has afterBoth (bitOf CICR k) ≡ (not (eqb k 6) && has m (bitOf CICR k))
-  enter-return-CICR k h = ap (bit k) (top-return-byte (arbitration m cs .image) busy CICR (λ e. omega arith)) ∙ go (ℕ-discrete k 6)
+  enter-return-CICR k h = ap (bit k) (top-return-byte (arbitrateOf m cs .left) busy CICR (λ e. omega arith)) ∙ go (ℕ-discrete k 6)
     where
-      go : Dec (k ≡ 6) → has (arbitration m cs .image) (bitOf CICR k) ≡ (not (eqb k 6) && has m (bitOf CICR k))
+      go : Dec (k ≡ 6) → has (arbitrateOf m cs .left) (bitOf CICR k) ≡ (not (eqb k 6) && has m (bitOf CICR k))
       go (yes e) = rw e (entered-TLIP m cs long idle top)
       go (no d) = rw (ne-eqb k 6 d) (entered-CICR m cs long idle top k h d)

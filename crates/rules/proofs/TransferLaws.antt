@@ -12,16 +12,23 @@ use lib.ListN.{length, set, length-set}
 use lib.Seq.{getD-set-same, getD-set-other}
 use borrow.Author.Tests.{lt-ltb, le-ltb, eqb-true, eqb-false, eq-eqb, ne-eqb}
 use Rattle.rules.specs.declared.Channel.{Channel}
+use Rattle.rules.specs.declared.Answer.{Answer}
 use Rattle.rules.specs.declared.Answer.the-variants as answer
 use Rattle.rules.specs.declared.Refusal.the-variants as refusal
 use Rattle.rules.specs.Image.{Image, imageLength, at, has, put, bitOf}
-use Rattle.rules.specs.Channels.{recordAt, idcrByte, dcprByte, dataByte, listOk}
-use Rattle.rules.specs.Outcomes.{refuse}
-use Rattle.rules.specs.Sources.{IP, DM, IM}
-use Rattle.rules.specs.Transfer.{pairOf, movedByte, lessOne, advanced, transferred, settled, served, transferOf}
+use Rattle.rules.specs.Channels.{recordAt, idcrByte, dcprByte, dataByte, listOk, IP, DM, IM}
+use Rattle.rules.specs.Outcomes.{Outcome, refuse}
+use Rattle.rules.specs.Transfer.{pairOf, movedByte, lessOne, advanced, settled, served, transferOf}
 use Rattle.rules.proofs.Bools.{cond-elim, cond-and, or-r}
 use Rattle.rules.proofs.ImageLaws.{put-length, at-put-other, has-put-same, has-put-bit, has-put-other}
 use Rattle.rules.proofs.ChannelLaws.{OnPage, record-in-range, record-ok, register-range, registers-apart}
+
+-- the address a in Rn, and the counter in R(n+1), before the move
+abbrev pub addressOf : Image → Channel → ℕ
+addressOf m c = at m (pairOf m c)
+
+abbrev pub counterOf : Image → Channel → ℕ
+counterOf m c = at m (pairOf m c + 1)
 
 -- ---- when it is refused
 
@@ -39,7 +46,7 @@ module _ (m : Image) (c : Channel) (s : ℕ) where
       rw (e, or-r (ltb 223 (pairOf m c)) (ltb 223 (at m (pairOf m c))) (lt-ltb 223 (at m (pairOf m c)) h))
 
   -- and any other request is served
-  pub transfer-served : at m (dcprByte c) % 2 ≡ 1 → pairOf m c ≤ 223 → at m (pairOf m c) ≤ 223 → transferOf m c s ≡ served m c s
+  pub transfer-served : at m (dcprByte c) % 2 ≡ 1 → pairOf m c ≤ 223 → at m (pairOf m c) ≤ 223 → transferOf m c s ≡ served m c s (pairOf m c) (addressOf m c) (counterOf m c)
   unfolding transferOf
   transfer-served e n a = rw (e, le-ltb 223 (pairOf m c) n, le-ltb 223 (at m (pairOf m c)) a)
 
@@ -129,13 +136,6 @@ module _ (m : Image) (c : Channel) (a : ℕ) where
 
 -- ---- a served request of source s, whose record is c: n is its pair
 
--- the address a in Rn, and the counter in R(n+1), before the move
-abbrev pub addressOf : Image → Channel → ℕ
-addressOf m c = at m (pairOf m c)
-
-abbrev pub counterOf : Image → Channel → ℕ
-counterOf m c = at m (pairOf m c + 1)
-
 module _ (m : Image) (cs : List Channel) (k : ℕ) (c : Channel) (s : ℕ) (is : c ≡ recordAt cs k) (long : length m ≡ imageLength) (ok : listOk cs ≡ true)
     (there : k < length cs) (pair : pairOf m c ≤ 223) (address : addressOf m c ≤ 223) where
   idcr-page : OnPage (idcrByte c)
@@ -157,45 +157,51 @@ module _ (m : Image) (cs : List Channel) (k : ℕ) (c : Channel) (s : ℕ) (is :
   abbrev moved : Image
   moved = movedByte m c (addressOf m c)
 
+  -- and the pair taken its new address and counter
+  abbrev transferred : Image
+  transferred = advanced moved (pairOf m c) (addressOf m c) (counterOf m c)
+
+  -- what is answered and left at the end
+  abbrev pub done : Outcome Answer Image
+  done = served m c s (pairOf m c) (addressOf m c) (counterOf m c)
+
   inside : (j : ℕ) → j < imageLength → j < length moved
   inside j h = rw (moved-length m c (addressOf m c), long) h
 
   -- any byte but IDCR is as the transfer leaves it, and any byte but Rn and R(n+1) as the move leaves it
-  from-transferred : (j : ℕ) → j ≢ idcrByte c → at (served m c s .image) j ≡ at (transferred m c) j
+  from-transferred : (j : ℕ) → j ≢ idcrByte c → at (done .left) j ≡ at transferred j
   unfolding served
-  from-transferred j d = settled-byte (transferred m c) c (eqb (lessOne (counterOf m c)) 0) j d
+  from-transferred j d = settled-byte transferred c (eqb (lessOne (counterOf m c)) 0) j d
 
-  from-moved : (j : ℕ) → j ≢ pairOf m c → j ≢ pairOf m c + 1 → at (transferred m c) j ≡ at moved j
-  unfolding transferred
+  from-moved : (j : ℕ) → j ≢ pairOf m c → j ≢ pairOf m c + 1 → at transferred j ≡ at moved j
   from-moved = advanced-other moved (pairOf m c) _ _
 
   -- Rn becomes the address plus one, whatever the move hit,
-  pub transfer-address : at (served m c s .image) (pairOf m c) ≡ addressOf m c + 1
-  unfolding transferred
+  pub transfer-address : at (done .left) (pairOf m c) ≡ addressOf m c + 1
   transfer-address =
       from-transferred (pairOf m c) (λ e. omega (arith, idcr-page))
       ∙ advanced-address moved (pairOf m c) (addressOf m c) (counterOf m c) (inside (pairOf m c) (omega arith))
 
   -- R(n+1) the counter less one, and 255 from 0,
   pub transfer-counter : counterOf m c < 256
-      → (counterOf m c ≡ 0 → at (served m c s .image) (pairOf m c + 1) ≡ 255)
-      × (0 < counterOf m c → at (served m c s .image) (pairOf m c + 1) + 1 ≡ counterOf m c)
-  unfolding transferred lessOne
+      → (counterOf m c ≡ 0 → at (done .left) (pairOf m c + 1) ≡ 255)
+      × (0 < counterOf m c → at (done .left) (pairOf m c + 1) + 1 ≡ counterOf m c)
+  unfolding lessOne
   transfer-counter h =
-      let e : at (served m c s .image) (pairOf m c + 1) ≡ (counterOf m c + 255) % 256 =
+      let e : at (done .left) (pairOf m c + 1) ≡ (counterOf m c + 255) % 256 =
       from-transferred (pairOf m c + 1) (λ e. omega (arith, idcr-page, next-register))
       ∙ advanced-counter moved (pairOf m c) _ (counterOf m c) (inside (pairOf m c + 1) (omega (arith, next-register))) in
       (λ z. omega arith, λ p. omega arith)
 
   -- direction 0: Ra takes the data register's byte, where it is neither Rn nor R(n+1),
   pub transfer-in : c .direction ≡ 0 → addressOf m c ≢ pairOf m c → addressOf m c ≢ pairOf m c + 1
-      → at (served m c s .image) (addressOf m c) ≡ at m (dataByte c)
+      → at (done .left) (addressOf m c) ≡ at m (dataByte c)
   transfer-in e d f =
       from-transferred (addressOf m c) (λ e. omega (arith, idcr-page)) ∙ from-moved (addressOf m c) d f
       ∙ moved-in m c (addressOf m c) e (rw long (omega arith))
 
   -- direction 1: the data register takes Ra's byte as it was, also where that is Rn or R(n+1)
-  pub transfer-out : c .direction ≡ 1 → at (served m c s .image) (dataByte c) ≡ at m (addressOf m c)
+  pub transfer-out : c .direction ≡ 1 → at (done .left) (dataByte c) ≡ at m (addressOf m c)
   transfer-out e =
       from-transferred (dataByte c) (λ d. idcr-not-data (sym d))
       ∙ from-moved (dataByte c) (λ d. omega (arith, data-page)) (λ d. omega (arith, data-page, next-register))
@@ -203,39 +209,38 @@ module _ (m : Image) (cs : List Channel) (k : ℕ) (c : Channel) (s : ℕ) (is :
 
   -- every other byte stays but IDCR
   pub transfer-frame : (j : ℕ) → j ≢ pairOf m c → j ≢ pairOf m c + 1 → j ≢ idcrByte c → (c .direction ≡ 0 → j ≢ addressOf m c) → (c .direction ≡ 1 → j ≢ dataByte c)
-      → at (served m c s .image) j ≡ at m j
+      → at (done .left) j ≡ at m j
   transfer-frame j d e f x y =
       from-transferred j f ∙ from-moved j d e ∙ moved-other m c (addressOf m c) one-way j x y
 
   -- and so does each that is neither a register up to R223 nor on pages 1 to 63: CICR, NICR, EIPR and the mark among them
-  pub transfer-named : (j : ℕ) → 223 < j → (OnPage j → ⊥) → at (served m c s .image) j ≡ at m j
+  pub transfer-named : (j : ℕ) → 223 < j → (OnPage j → ⊥) → at (done .left) j ≡ at m j
   transfer-named j h off =
       transfer-frame j (λ e. omega arith) (λ e. omega (arith, next-register)) (λ e. off (rw e idcr-page)) (λ d e. omega arith) (λ d e. off (rw e data-page))
 
   -- the answer: the block has ended exactly if the counter was 1
-  pub transfer-answer : counterOf m c < 256 → served m c s .answer ≡ answer.Transferred s (eqb (counterOf m c) 1)
+  pub transfer-answer : counterOf m c < 256 → done .answer ≡ answer.Transferred s (eqb (counterOf m c) 1)
   unfolding served
   transfer-answer h = ap (answer.Transferred s) (ended-one (counterOf m c) h)
 
   -- IDCR before the end's part is as it was
-  idcr-kept : at (transferred m c) (idcrByte c) ≡ at m (idcrByte c)
+  idcr-kept : at transferred (idcrByte c) ≡ at m (idcrByte c)
   idcr-kept =
       from-moved (idcrByte c) (λ d. omega (arith, idcr-page)) (λ d. omega (arith, idcr-page, next-register))
       ∙ moved-other m c (addressOf m c) one-way (idcrByte c) (λ e d. omega (arith, idcr-page)) (λ e. idcr-not-data)
 
-  idcr-inside : idcrByte c < length (transferred m c)
-  unfolding transferred
+  idcr-inside : idcrByte c < length transferred
   idcr-inside = rw advanced-length (inside (idcrByte c) (omega (arith, idcr-page)))
 
   -- IP is set afterwards exactly at the end of a block with IM set,
-  pub transfer-IP : counterOf m c < 256 → has (served m c s .image) (IP c) ≡ (eqb (counterOf m c) 1 && has m (IM c))
+  pub transfer-IP : counterOf m c < 256 → has (done .left) (IP c) ≡ (eqb (counterOf m c) 1 && has m (IM c))
   unfolding served
   transfer-IP h =
-      settled-IP (transferred m c) c (eqb (lessOne (counterOf m c)) 0) idcr-inside ∙ rw (ended-one (counterOf m c) h, idcr-kept)
+      settled-IP transferred c (eqb (lessOne (counterOf m c)) 0) idcr-inside ∙ rw (ended-one (counterOf m c) h, idcr-kept)
 
   -- DM stays but at the end of a block, where it is cleared; every other bit of IDCR stays
   pub transfer-IDCR : counterOf m c < 256 → (x : ℕ) → x < 8 → x ≢ 5
-      → has (served m c s .image) (bitOf (idcrByte c) x) ≡ (has m (bitOf (idcrByte c) x) && not (eqb (counterOf m c) 1 && eqb x 4))
+      → has (done .left) (bitOf (idcrByte c) x) ≡ (has m (bitOf (idcrByte c) x) && not (eqb (counterOf m c) 1 && eqb x 4))
   unfolding served
   transfer-IDCR h x hx d =
-      settled-bit (transferred m c) c (eqb (lessOne (counterOf m c)) 0) x hx d idcr-inside ∙ rw (ended-one (counterOf m c) h, idcr-kept)
+      settled-bit transferred c (eqb (lessOne (counterOf m c)) 0) x hx d idcr-inside ∙ rw (ended-one (counterOf m c) h, idcr-kept)

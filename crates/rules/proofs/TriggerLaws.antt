@@ -22,8 +22,8 @@ use Rattle.rules.specs.Image.{Image, imageLength, at, has, put, Bit, CIC
 use Rattle.rules.specs.Channels.{recordAt, idcrByte, listOk}
 use Rattle.rules.specs.Outcomes.{refuse}
 use Rattle.rules.specs.Sources.{sources, pendingBit, pending}
-use Rattle.rules.specs.Triggers.{triggerVerdict, selects, selectsTop, effectOn, sourceEffect, raiseSource, topEffect, raiseTop, fire, triggerOf}
-use Rattle.rules.specs.Waiting.{within}
+use Rattle.rules.specs.Triggers.{triggerVerdict, selects, selectsTop, effectOn, sourceEffect, raiseSource, topEffect, raiseTop, fired, triggerOf}
+use Rattle.rules.specs.Demand3.{within}
 use Rattle.rules.proofs.Bools.{cond-elim}
 use Rattle.rules.proofs.ImageLaws.{Apart, put-length, at-put-other, has-put-same, has-put-other}
 use Rattle.rules.proofs.SelectionLaws.{selected-there}
@@ -101,7 +101,7 @@ top-says m false = refl
 
 -- a refused trigger answers its refusal, and changes nothing
 pub trigger-refused : (m : Image) (cs : List Channel) (t : Trigger) (r : Refusal) → triggerVerdict cs t ≡ verdict.Refused r → triggerOf m cs t ≡ refuse r m
-unfolding triggerOf fire
+unfolding triggerOf fired
 trigger-refused m cs t r v = rw v
 
 module _ (m : Image) (cs : List Channel) (t : Trigger) (long : length m ≡ imageLength) (ok : listOk cs ≡ true)
@@ -109,9 +109,9 @@ module _ (m : Image) (cs : List Channel) (t : Trigger) (long : length m ≡ imag
   abbrev raised : Image
   raised = raiseSource m cs (selects m t)
 
-  fired : triggerOf m cs t .image ≡ raiseTop raised (selectsTop m t)
-  unfolding triggerOf fire
-  fired = rw accepted
+  triggered : triggerOf m cs t .left ≡ raiseTop raised (selectsTop m t)
+  unfolding triggerOf fired
+  triggered = rw accepted
 
   there : (s : ℕ) → selects m t ≡ some s → s < sources cs
   there = selected-there m cs t accepted
@@ -119,31 +119,31 @@ module _ (m : Image) (cs : List Channel) (t : Trigger) (long : length m ≡ imag
   -- the answer: NotSelected, Raised or Merged for the maskable bit, and for TLIP
   pub trigger-answer : (e : Effect) × (f : Effect) × (triggerOf m cs t .answer ≡ answer.Triggered e f)
       × Says e (within (λ j. true) (selects m t)) (within (pending m cs) (selects m t)) × Says f (selectsTop m t) (has m TLIP)
-  unfolding triggerOf fire
+  unfolding triggerOf fired
   trigger-answer =
       (sourceEffect m cs (selects m t), topEffect m (selectsTop m t), rw accepted, source-says m cs (selects m t), top-says m (selectsTop m t))
 
   -- a source is pending afterwards exactly if it was, or is the one selected
-  pub trigger-pending : (k : ℕ) → k < sources cs → pending (triggerOf m cs t .image) cs k ≡ (pending m cs k || within (λ j. eqb j k) (selects m t))
+  pub trigger-pending : (k : ℕ) → k < sources cs → pending (triggerOf m cs t .left) cs k ≡ (pending m cs k || within (λ j. eqb j k) (selects m t))
   trigger-pending k h =
-      pending-same cs ok raised (triggerOf m cs t .image) k h (λ j c n x. rw fired (top-byte raised (selectsTop m t) j c))
+      pending-same cs ok raised (triggerOf m cs t .left) k h (λ j c n x. rw triggered (top-byte raised (selectsTop m t) j c))
       ∙ raise-pending m cs long ok (selects m t) there k h
 
   -- every bit stays but TLIP and the sources' pending bits,
-  pub trigger-bit : (c : Bit) → c .number < 8 → Apart c TLIP → ((k : ℕ) → k < sources cs → Apart c (pendingBit cs k)) → has (triggerOf m cs t .image) c ≡ has m c
+  pub trigger-bit : (c : Bit) → c .number < 8 → Apart c TLIP → ((k : ℕ) → k < sources cs → Apart c (pendingBit cs k)) → has (triggerOf m cs t .left) c ≡ has m c
   trigger-bit c h a p =
-      rw fired (top-other raised (selectsTop m t) c h a ∙ raise-bit m cs long ok (selects m t) there c h (λ s e. p s (there s e)))
+      rw triggered (top-other raised (selectsTop m t) c h a ∙ raise-bit m cs long ok (selects m t) there c h (λ s e. p s (there s e)))
 
   -- every byte but CICR, EIPR and the records' IDCRs
-  pub trigger-byte : (j : ℕ) → j ≢ CICR → j ≢ EIPR → ((k : ℕ) → k < length cs → j ≢ idcrByte (recordAt cs k)) → at (triggerOf m cs t .image) j ≡ at m j
+  pub trigger-byte : (j : ℕ) → j ≢ CICR → j ≢ EIPR → ((k : ℕ) → k < length cs → j ≢ idcrByte (recordAt cs k)) → at (triggerOf m cs t .left) j ≡ at m j
   unfolding sources
   trigger-byte j c x y =
-      rw fired (top-byte raised (selectsTop m t) j c
+      rw triggered (top-byte raised (selectsTop m t) j c
       ∙ raise-byte m cs long ok (selects m t) j (λ s e. pending-elim cs ok s (there s e) (λ b. j ≢ b .byte) (λ g. x) (λ g o. y (s - 8) (omega (arith, there s e)))))
 
   -- TLIP is set afterwards exactly if it was, or is selected
-  pub trigger-TLIP : has (triggerOf m cs t .image) TLIP ≡ (has m TLIP || selectsTop m t)
+  pub trigger-TLIP : has (triggerOf m cs t .left) TLIP ≡ (has m TLIP || selectsTop m t)
   trigger-TLIP =
-      rw fired (top-bit raised (selectsTop m t) (rw (raise-length m cs long ok (selects m t)) (lit< tt))
+      rw triggered (top-bit raised (selectsTop m t) (rw (raise-length m cs long ok (selects m t)) (lit< tt))
       ∙ ap (λ (b : Bool). b || selectsTop m t) (raise-bit m cs long ok (selects m t) there TLIP (lit< tt)
       (λ s e. inl (pending-elsewhere cs ok s (there s e) CICR (λ d. omega arith) (λ o. omega arith)))))

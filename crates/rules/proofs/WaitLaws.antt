@@ -3,7 +3,6 @@ use mathlib.Core.Path.{_≡_, refl, sym, ap, _∙_}
 use mathlib.Core.Bool.{Bool, true, false, cond, _||_}
 use mathlib.Core.List.{List, [], _∷_, _++_}
 use Prim.Native.Nat.{ℕ, _+_, _≤_, _<_}
-use native.Mathlib.Nat.{zero-add}
 use lib.ListN.{take}
 use lib.Dec.{ltb}
 use borrow.Author.Tests.{ltb-true, lt-ltb, le-ltb}
@@ -19,28 +18,34 @@ use Rattle.rules.specs.declared.Ran.{Ran}
 use Rattle.rules.specs.declared.Ran.the-variants as ran
 use Rattle.rules.specs.declared.Waited.{Waited}
 use Rattle.rules.specs.declared.Waited.the-variants as waited
-use Rattle.rules.specs.Image.{State}
-use Rattle.rules.specs.Outcomes.{verdictOf}
+use Rattle.rules.specs.Outcomes.{State, Outcome, outcome, refusedOr, verdictOf, acknowledges}
 use Rattle.rules.specs.Sources.{sources}
 use Rattle.rules.specs.Steps.{lentVerdict}
-use Rattle.rules.specs.Runs.{Event, history, stateAfter, anyEvent, until, stepsDone, runEvents, lastAnswer, ranIf, runReport, runOf, acknowledges, acknowledgedIn, arbitrationsIn, waitEvents, waitedIf, waitOutcome, waitReport, sourceIf, waitVerdict, waitIf, waitOf, eventAcknowledges}
+use Rattle.rules.specs.Runs.{Event, history, stateAfter, anyEvent, until, stepsDone, runEvents, lastAnswer, runAnswer, runOf, acknowledgedIn, arbitrationsIn, waitEvents, waitAnswer, waitVerdict, waitOf, waitHistory, eventAcknowledges}
 use Rattle.rules.proofs.Histories.{until-whole, wait-ends, wait-after}
-use Rattle.rules.proofs.Bools.{impossible}
+use Rattle.rules.proofs.Bools.{impossible, cond-elim}
+use Rattle.rules.proofs.Verdicts.{verdict-elim, verdict-same}
 use Rattle.rules.proofs.AcknowledgedBy.{acknowledges-accepted}
 
 -- ---- refused before any step: 1 and 2 for what is lent, then the source number
 
 -- a wait report refused so does nothing
 pub wait-refused : (s : State) (cs : List Channel) (source : ℕ) (xs : List Step) (r : Refusal) → waitVerdict s cs source ≡ verdict.Refused r
-    → waitOf s cs source xs ≡ waitOutcome (waited.Refused r) s
+    → waitOf s cs source xs ≡ outcome (waited.Refused r) s
 unfolding waitOf
-wait-refused s cs source xs r v = ap (λ (u : Verdict). waitIf u s cs source xs) v
+wait-refused s cs source xs r v = rw v
+
+-- and has no event; else its events are the steps up to the acknowledgement or the first refused
+pub wait-history : (s : State) (cs : List Channel) (source : ℕ) (xs : List Step)
+    → ((r : Refusal) → waitVerdict s cs source ≡ verdict.Refused r → waitHistory s cs source xs ≡ [])
+    × (waitVerdict s cs source ≡ verdict.Accepted → waitHistory s cs source xs ≡ waitEvents s cs source xs)
+wait-history s cs source xs = (λ r v. rw v, λ v. rw v)
 
 module _ (s : State) (cs : List Channel) (source : ℕ) where
   -- what is lent comes first
   pub lent-first : (r : Refusal) → lentVerdict s cs ≡ verdict.Refused r → waitVerdict s cs source ≡ verdict.Refused r
   unfolding waitVerdict
-  lent-first r v = ap (λ (u : Verdict). sourceIf u cs source) v
+  lent-first r v = rw v
 
   -- refusal 4 next: there is no such source
   pub source-next : lentVerdict s cs ≡ verdict.Accepted → sources cs ≤ source → waitVerdict s cs source ≡ verdict.Refused refusal.Number
@@ -50,21 +55,15 @@ module _ (s : State) (cs : List Channel) (source : ℕ) where
   -- a wait report is accepted only with what is lent
   pub accepted-lent : waitVerdict s cs source ≡ verdict.Accepted → lentVerdict s cs ≡ verdict.Accepted
   unfolding waitVerdict
-  accepted-lent v = go (lentVerdict s cs) v
-    where
-      go : (u : Verdict) → sourceIf u cs source ≡ verdict.Accepted → u ≡ verdict.Accepted
-      go verdict.Accepted e = refl
-      go (verdict.Refused r) e = e
+  accepted-lent v = verdict-elim (λ (w : Verdict). w ≡ verdict.Accepted → lentVerdict s cs ≡ verdict.Accepted) (lentVerdict s cs) (λ u e. u) (λ r u e. impossible (cc)) v
 
   -- and with a source that is there
   pub accepted-source : waitVerdict s cs source ≡ verdict.Accepted → source < sources cs
   unfolding waitVerdict
-  accepted-source v = go (lentVerdict s cs) (ltb source (sources cs)) refl v
-    where
-      go : (u : Verdict) (b : Bool) → ltb source (sources cs) ≡ b → sourceIf u cs source ≡ verdict.Accepted → source < sources cs
-      go verdict.Accepted true d e = ltb-true source (sources cs) d
-      go verdict.Accepted false d e = impossible (cc)
-      go (verdict.Refused r) b d e = impossible (cc)
+  accepted-source v =
+      verdict-elim (λ (w : Verdict). w ≡ verdict.Accepted → source < sources cs) (lentVerdict s cs)
+      (λ u. cond-elim (λ (w : Verdict). w ≡ verdict.Accepted → source < sources cs) (ltb source (sources cs)) (λ d e. ltb-true source (sources cs) d) (λ d e. impossible (cc)))
+      (λ r u e. impossible (cc)) v
 
   -- otherwise the steps are done
   pub wait-accepted : lentVerdict s cs ≡ verdict.Accepted → source < sources cs → waitVerdict s cs source ≡ verdict.Accepted
@@ -80,36 +79,31 @@ arbitrationsOf (waited.RefusedAt r i k) = k
 arbitrationsOf (waited.Ended k) = k
 arbitrationsOf (waited.Acknowledged k) = k
 
+-- a wait report whose last step, after n done and with k arbitrations made, answered a
+abbrev pub waitedBy : ℕ → ℕ → ℕ → Answer → Waited
+waitedBy source n k a = refusedOr (verdictOf a) (λ r. waited.RefusedAt r n k) (cond (acknowledges source a) (waited.Acknowledged k) (waited.Ended k))
+
 -- a number that is m of each answer a wait report of what is accepted may give
 waited-each : (f : Waited → ℕ) (m source n k : ℕ) (a : Answer) → f (waited.Acknowledged k) ≡ m → f (waited.Ended k) ≡ m
-    → ((r : Refusal) → f (waited.RefusedAt r n k) ≡ m) → (v : Verdict) → f (waitedIf v source n k a) ≡ m
-waited-each f m source n k a p q h (verdict.Refused r) = h r
-waited-each f m source n k a p q h verdict.Accepted = go (acknowledges source a)
-  where
-    go : (b : Bool) → f (cond b (waited.Acknowledged k) (waited.Ended k)) ≡ m
-    go true = p
-    go false = q
+    → ((r : Refusal) → f (waited.RefusedAt r n k) ≡ m) → f (waitedBy source n k a) ≡ m
+waited-each f m source n k a p q h =
+    verdict-elim (λ (w : Waited). f w ≡ m) (verdictOf a) (λ e. cond-elim (λ (w : Waited). f w ≡ m) (acknowledges source a) (λ e. p) (λ e. q)) (λ r e. h r)
 
 -- a wait report counts the arbitrations among its events, which are the run's up to the acknowledgement
 pub wait-count : (s : State) (cs : List Channel) (source : ℕ) (xs : List Step) → waitVerdict s cs source ≡ verdict.Accepted
     → (w : Waited) → waitOf s cs source xs .answer ≡ w → arbitrationsOf w ≡ arbitrationsIn (waitEvents s cs source xs)
-unfolding waitOf waitReport
+unfolding waitOf waitAnswer
 wait-count s cs source xs v w p =
     let es : List Event = waitEvents s cs source xs in
-    let a : Answer = lastAnswer answer.NoStep es in
-    sym (ap arbitrationsOf (ap (λ (u : Verdict). waitIf u s cs source xs .answer) (sym v) ∙ p))
-    ∙ waited-each arbitrationsOf (0 + arbitrationsIn es) source (0 + stepsDone es) (0 + arbitrationsIn es) a refl refl (λ r. refl) (verdictOf a)
-    ∙ zero-add (arbitrationsIn es)
+    sym (ap arbitrationsOf (rw v at p))
+    ∙ waited-each arbitrationsOf (arbitrationsIn es) source (stepsDone es) (arbitrationsIn es) (lastAnswer answer.NoStep es) refl refl (λ r. refl)
 
 -- steps after the acknowledgement are never looked at, whatever they are
 pub wait-stops : (s : State) (cs : List Channel) (source : ℕ) (xs ys : List Step) → acknowledgedIn source (runEvents s cs xs) ≡ true
     → waitOf s cs source (xs ++ ys) ≡ waitOf s cs source xs
 unfolding waitOf
-wait-stops s cs source xs ys h = go (waitVerdict s cs source)
-  where
-    go : (v : Verdict) → waitIf v s cs source (xs ++ ys) ≡ waitIf v s cs source xs
-    go verdict.Accepted = ap (waitReport source s 0 0 answer.NoStep) (wait-ends s cs source xs ys h)
-    go (verdict.Refused r) = refl
+wait-stops s cs source xs ys h =
+    verdict-same (waitVerdict s cs source) (λ v. ap (λ (es : List Event). outcome (waitAnswer source es) (stateAfter s es)) (wait-ends s cs source xs ys h)) (λ r v. refl)
 
 -- the index that it answers with, n where there is none
 abbrev indexOr : ℕ → Waited → ℕ
@@ -120,37 +114,38 @@ indexOr n (waited.Acknowledged k) = n
 
 -- it leaves the state after the last step done
 pub wait-state : (s : State) (cs : List Channel) (source : ℕ) (xs : List Step) → waitVerdict s cs source ≡ verdict.Accepted
-    → waitOf s cs source xs .state ≡ stateAfter s (waitEvents s cs source xs)
-unfolding waitOf waitReport
-wait-state s cs source xs v = ap (λ (u : Verdict). waitIf u s cs source xs .state) v
+    → waitOf s cs source xs .left ≡ stateAfter s (waitEvents s cs source xs)
+unfolding waitOf
+wait-state s cs source xs v = rw v
 
 -- refused at a step, it leaves what exactly the steps before leave, and counts their arbitrations
 pub wait-leaves : (s : State) (cs : List Channel) (source : ℕ) (xs : List Step) (r : Refusal) (i k : ℕ)
     → waitOf s cs source xs .answer ≡ waited.RefusedAt r i k
-    → (waitOf s cs source xs .state ≡ stateAfter s (history s cs (take i xs))) × (k ≡ arbitrationsIn (history s cs (take i xs)))
-unfolding waitOf waitReport history stateAfter
-wait-leaves s cs source xs r i k = go (waitVerdict s cs source)
+    → (waitOf s cs source xs .left ≡ stateAfter s (history s cs (take i xs))) × (k ≡ arbitrationsIn (history s cs (take i xs)))
+unfolding waitOf waitAnswer history stateAfter
+wait-leaves s cs source xs r i k = verdict-elim Leaves (waitVerdict s cs source) (λ v. done) (λ q v p. impossible (cc))
   where
     es : List Event
     es = waitEvents s cs source xs
 
+    n : ℕ
+    n = stepsDone es
+
     last : Answer
     last = lastAnswer answer.NoStep es
 
-    go : (v : Verdict) → waitIf v s cs source xs .answer ≡ waited.RefusedAt r i k
-        → (waitIf v s cs source xs .state ≡ stateAfter s (history s cs (take i xs))) × (k ≡ arbitrationsIn (history s cs (take i xs)))
-    go verdict.Accepted p =
-        let n : ℕ = 0 + stepsDone es in
-        let e : indexOr n (waitIf verdict.Accepted s cs source xs .answer) ≡ n =
-        waited-each (indexOr n) n source n (0 + arbitrationsIn es) last refl refl (λ r. refl) (verdictOf last) in
-        let f : arbitrationsOf (waitIf verdict.Accepted s cs source xs .answer) ≡ 0 + arbitrationsIn es =
-        waited-each arbitrationsOf (0 + arbitrationsIn es) source n (0 + arbitrationsIn es) last refl refl (λ r. refl) (verdictOf last) in
-        let index : stepsDone es ≡ i = sym (e ∙ zero-add (stepsDone es)) ∙ ap (indexOr n) p in (
+    Leaves : Outcome Waited State → Type 0
+    Leaves o = o .answer ≡ waited.RefusedAt r i k → (o .left ≡ stateAfter s (history s cs (take i xs))) × (k ≡ arbitrationsIn (history s cs (take i xs)))
+
+    done : Leaves (outcome (waitedBy source n (arbitrationsIn es) last) (stateAfter s es))
+    done p =
+        let e : indexOr n (waitedBy source n (arbitrationsIn es) last) ≡ n = waited-each (indexOr n) n source n (arbitrationsIn es) last refl refl (λ r. refl) in
+        let f : arbitrationsOf (waitedBy source n (arbitrationsIn es) last) ≡ arbitrationsIn es =
+        waited-each arbitrationsOf (arbitrationsIn es) source n (arbitrationsIn es) last refl refl (λ r. refl) in
+        let index : n ≡ i = sym e ∙ ap (indexOr n) p in (
           wait-after s cs source xs .0 ∙ ap (λ (n : ℕ). stateAfter s (history s cs (take n xs))) index,
-          sym (ap arbitrationsOf p) ∙ f ∙ zero-add (arbitrationsIn es) ∙ wait-after s cs source xs .1
-              ∙ ap (λ (n : ℕ). arbitrationsIn (history s cs (take n xs))) index,
+          sym (ap arbitrationsOf p) ∙ f ∙ wait-after s cs source xs .1 ∙ ap (λ (n : ℕ). arbitrationsIn (history s cs (take n xs))) index,
         )
-    go (verdict.Refused q) p = impossible (cc)
 
 -- ---- which end it is
 
@@ -194,16 +189,16 @@ module _ (s : State) (cs : List Channel) (source : ℕ) (xs : List Step) where
   -- with the source acknowledged among the run's events, that is the answer
   pub wait-acknowledged : waitVerdict s cs source ≡ verdict.Accepted → acknowledgedIn source (runEvents s cs xs) ≡ true
       → waitOf s cs source xs .answer ≡ waited.Acknowledged (arbitrationsIn (waitEvents s cs source xs))
-  unfolding waitOf waitReport
+  unfolding waitOf waitAnswer
   wait-acknowledged v h =
       let last = lastAnswer answer.NoStep (waitEvents s cs source xs) in
       let t : acknowledges source last ≡ true = last-acknowledges ∙ h in
-      rw (v, acknowledges-accepted source last t, t, zero-add)
+      rw (v, acknowledges-accepted source last t, t)
 
   -- without, the wait report is the run, with its arbitrations counted
   pub wait-as-run : waitVerdict s cs source ≡ verdict.Accepted → acknowledgedIn source (runEvents s cs xs) ≡ false
-      → waitOf s cs source xs ≡ waitOutcome (counting (arbitrationsIn (runEvents s cs xs)) (runOf s cs xs .answer)) (runOf s cs xs .state)
-  unfolding waitOf waitReport runOf runReport
+      → waitOf s cs source xs ≡ outcome (counting (arbitrationsIn (runEvents s cs xs)) (runOf s cs xs .answer)) (runOf s cs xs .left)
+  unfolding waitOf waitAnswer runOf runAnswer
   wait-as-run v h = rw (v, accepted-lent s cs source v, whole) (go (verdictOf last))
     where
       es : List Event
@@ -218,7 +213,8 @@ module _ (s : State) (cs : List Channel) (source : ℕ) (xs : List Step) where
       other : acknowledges source last ≡ false
       other = ap (λ (fs : List Event). acknowledges source (lastAnswer answer.NoStep fs)) (sym whole) ∙ last-acknowledges ∙ h
 
-      go : (u : Verdict) → waitOutcome (waitedIf u source (0 + stepsDone es) (0 + arbitrationsIn es) last) (stateAfter s es)
-          ≡ waitOutcome (counting (arbitrationsIn es) (ranIf u (0 + stepsDone es) last)) (stateAfter s es)
-      go verdict.Accepted = rw (other, zero-add)
-      go (verdict.Refused r) = rw (zero-add (arbitrationsIn es))
+      go : (u : Verdict)
+          → outcome (refusedOr u (λ r. waited.RefusedAt r (stepsDone es) (arbitrationsIn es)) (cond (acknowledges source last) (waited.Acknowledged (arbitrationsIn es)) (waited.Ended (arbitrationsIn es)))) (stateAfter s es)
+          ≡ outcome (counting (arbitrationsIn es) (refusedOr u (λ r. ran.RefusedAt r (stepsDone es)) (ran.Done (stepsDone es) last))) (stateAfter s es)
+      go verdict.Accepted = rw other
+      go (verdict.Refused r) = refl

@@ -16,7 +16,7 @@ use Rattle.rules.specs.declared.Winner.the-variants as winner
 use Rattle.rules.specs.Image.{Image, at, has, IEN, CPL}
 use Rattle.rules.specs.Sources.{sources, pending, unmasked, dmaEnabled, level}
 use Rattle.rules.specs.Requests.{requestOf, eligible, isAt, wonBy, candidate, orWinner, first, winnerOfKind, winnerAtLevel, winnerOf}
-use Rattle.rules.specs.Waiting.{outranks}
+use Rattle.rules.specs.Demand3.{outranks}
 use Rattle.rules.proofs.RequestLaws.{eligible-dma, eligible-interrupt, is-dma, is-interrupt, is-kind, dma-request, interrupt-request}
 use Rattle.rules.proofs.Bools.{impossible, and-l, and-r, or-cases, not-both}
 

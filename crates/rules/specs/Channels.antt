@@ -1,20 +1,20 @@
--- Document 01, "The image": the channel list, the places of a record's registers, and the rules on the list (refusal 2).
+-- Document 01, "The image": the channel list, the places of a record's registers, the bits of its IDCR, and the rules on the list (refusal 2).
 -- Assumes nothing.
+use mathlib.Core.Path.{_≡_}
 use mathlib.Core.Bool.{Bool, true, false, cond, not, _&&_, _||_}
 use mathlib.Core.List.{List, [], _∷_, _++_}
-use Prim.Native.Nat.{ℕ, zero, suc, _/_, _%_}
+use Prim.Native.Nat.{ℕ, _%_}
 use lib.Dec.{eqb, ltb, leb}
-use lib.ListN.{length, getD, take, drop, replicate}
+use lib.ListN.{length, getD, take}
 use Rattle.rules.specs.declared.Channel.{Channel}
 use Rattle.rules.specs.declared.Channels.{Channels}
-use Rattle.rules.specs.declared.Places.{Places}
-use Rattle.rules.specs.Image.{pageByte}
+use Rattle.rules.specs.Image.{Image, imageLength, at, pageByte, Bit, bitOf}
 
 -- a list has at most twelve records
 abbrev pub mostRecords : ℕ
 mostRecords = 12
 
--- what stands past a list's end; no rule uses it
+-- what stands past a list's end, where no rule looks; it also fills a list that is refused for its length
 abbrev pub noChannel : Channel
 noChannel = record { page = 0; idcr = 0; ivr = 0; dcpr = 0; dapr = 0; io = 0; direction = 0 }
 
@@ -24,27 +24,38 @@ recordAt cs k = getD cs k noChannel
 
 -- the bytes of a record's registers
 unfoldable pub idcrByte : Channel → ℕ
-idcrByte c = pageByte (c .page) (c .idcr)
+idcrByte channel = pageByte (channel .page) (channel .idcr)
 
 unfoldable pub ivrByte : Channel → ℕ
-ivrByte c = pageByte (c .page) (c .ivr)
+ivrByte channel = pageByte (channel .page) (channel .ivr)
 
 unfoldable pub dcprByte : Channel → ℕ
-dcprByte c = pageByte (c .page) (c .dcpr)
+dcprByte channel = pageByte (channel .page) (channel .dcpr)
 
 unfoldable pub daprByte : Channel → ℕ
-daprByte c = pageByte (c .page) (c .dapr)
+daprByte channel = pageByte (channel .page) (channel .dapr)
 
 unfoldable pub dataByte : Channel → ℕ
-dataByte c = pageByte (c .page) (c .io)
+dataByte channel = pageByte (channel .page) (channel .io)
 
--- all five by name
-abbrev pub placesOf : Channel → Places
-placesOf c = record { idcr = idcrByte c; ivr = ivrByte c; dcpr = dcprByte c; dapr = daprByte c; io = dataByte c }
-
--- and in this order
+-- all five, in this order
 abbrev pub recordBytes : Channel → List ℕ
-recordBytes c = idcrByte c ∷ ivrByte c ∷ dcprByte c ∷ daprByte c ∷ dataByte c ∷ []
+recordBytes channel = idcrByte channel ∷ ivrByte channel ∷ dcprByte channel ∷ daprByte channel ∷ dataByte channel ∷ []
+
+-- the bits of its IDCR: 5 IP, 4 DM, 3 IM, 2:0 PRL
+abbrev pub IP : Channel → Bit
+IP channel = bitOf (idcrByte channel) 5
+
+abbrev pub DM : Channel → Bit
+DM channel = bitOf (idcrByte channel) 4
+
+abbrev pub IM : Channel → Bit
+IM channel = bitOf (idcrByte channel) 3
+
+abbrev pub PRL : Image → Channel → ℕ
+PRL m channel = at m (idcrByte channel) % 8
+
+-- ---- the rules on the list
 
 -- lo to hi, both included
 abbrev pub between : ℕ → ℕ → ℕ → Bool
@@ -52,14 +63,14 @@ between lo hi x = leb lo x && leb x hi
 
 -- a page of 1 to 63, five register numbers of 240 to 255, and a direction of 0 or 1
 abbrev pub recordOk : Channel → Bool
-recordOk c =
-    between 1 63 (c .page) && between 240 255 (c .idcr) && between 240 255 (c .ivr) && between 240 255 (c .dcpr)
-    && between 240 255 (c .dapr) && between 240 255 (c .io) && leb (c .direction) 1
+recordOk channel =
+    between 1 63 (channel .page) && between 240 255 (channel .idcr) && between 240 255 (channel .ivr) && between 240 255 (channel .dcpr)
+    && between 240 255 (channel .dapr) && between 240 255 (channel .io) && leb (channel .direction) 1
 
--- every record is so
+-- every record is within these ranges
 unfoldable pub recordsOk : List Channel → Bool
 recordsOk [] = true
-recordsOk (c ∷ cs) = recordOk c && recordsOk cs
+recordsOk (channel ∷ cs) = recordOk channel && recordsOk cs
 
 -- x occurs in the list
 unfoldable pub member : ℕ → List ℕ → Bool
@@ -74,45 +85,16 @@ distinct (x ∷ xs) = not (member x xs) && distinct xs
 -- the bytes of all records' registers, in order
 unfoldable pub allBytes : List Channel → List ℕ
 allBytes [] = []
-allBytes (c ∷ cs) = recordBytes c ++ allBytes cs
+allBytes (channel ∷ cs) = recordBytes channel ++ allBytes cs
 
 -- the rules on a list. No (page, register) pair occurs twice: two pairs in range are equal exactly if their bytes are.
 unfoldable pub listOk : List Channel → Bool
 listOk cs = leb (length cs) mostRecords && recordsOk cs && distinct (allBytes cs)
 
--- the list that a list by value stands for: its first `count` items, or one of thirteen, which no rule allows
+-- what is accepted of what is lent, as the contracts of the core name it: an image of 1,265 bytes and a list within the rules
+abbrev pub Accepted : Image → List Channel → Type 0
+Accepted m cs = (length m ≡ imageLength) × (listOk cs ≡ true)
+
+-- the list that a list by value, as the core has it, stands for: its first `count` items; where the count is over twelve one of thirteen, which `listOk` refuses
 unfoldable pub listOf : Channels → List Channel
 listOf all = cond (ltb mostRecords (all .count)) (all .items ++ (noChannel ∷ [])) (take (all .count) (all .items))
-
--- ---- a list lent as bytes, as C has it
-
--- the bytes of a record
-abbrev pub recordLength : ℕ
-recordLength = 7
-
--- a record as seven bytes: page, IDCR, IVR, DCPR, DAPR, data, direction; records one after another
-unfoldable pub bytesOf : List Channel → List ℕ
-bytesOf [] = []
-bytesOf (c ∷ cs) = c .page ∷ c .idcr ∷ c .ivr ∷ c .dcpr ∷ c .dapr ∷ c .io ∷ c .direction ∷ bytesOf cs
-
--- the record that the first seven bytes are
-abbrev pub recordIn : List ℕ → Channel
-recordIn bs =
-    record {
-      page = getD bs 0 0;
-      idcr = getD bs 1 0;
-      ivr = getD bs 2 0;
-      dcpr = getD bs 3 0;
-      dapr = getD bs 4 0;
-      io = getD bs 5 0;
-      direction = getD bs 6 0;
-    }
-
--- the n records that they begin with
-unfoldable pub recordsIn : ℕ → List ℕ → List Channel
-recordsIn zero bs = []
-recordsIn (suc n) bs = recordIn bs ∷ recordsIn n (drop recordLength bs)
-
--- the list that bytes stand for: the one that they are the bytes of; one of thirteen records, which no rule allows, where their number is no multiple of seven
-unfoldable pub listIn : List ℕ → List Channel
-listIn bs = cond (eqb (length bs % recordLength) 0) (recordsIn (length bs / recordLength) bs) (replicate (suc mostRecords) noChannel)

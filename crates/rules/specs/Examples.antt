@@ -1,5 +1,6 @@
 -- Document 01, "Marked examples": C01 to C13 as one list. Each example is a few scenarios: the channel list, the image at the start,
 -- and steps with the answer and the bytes that each must leave changed. Whole images are compared. Assumes nothing.
+use mathlib.Core.Path.{_≡_}
 use mathlib.Core.Bool.{true, false}
 use mathlib.Core.List.{List, [], _∷_, map}
 use Prim.Native.Nat.{ℕ}
@@ -12,9 +13,9 @@ use Rattle.rules.specs.declared.Effect.the-variants as effect
 use Rattle.rules.specs.declared.Refusal.the-variants as refusal
 use Rattle.rules.specs.declared.Answer.{Answer}
 use Rattle.rules.specs.declared.Answer.the-variants as answer
-use Rattle.rules.specs.Image.{Image, imageLength, state, CICR, MODER, EITR, EIPR, EIMR, EIPLR, EIVR, NICR, MARK}
+use Rattle.rules.specs.Image.{Image, imageLength, CICR, MODER, EITR, EIPR, EIMR, EIPLR, EIVR, NICR, MARK}
 use Rattle.rules.specs.Channels.{idcrByte, dcprByte, dataByte}
-use Rattle.rules.specs.Outcomes.{Outcome, outcome}
+use Rattle.rules.specs.Outcomes.{State, state, Outcome, outcome}
 use Rattle.rules.specs.Registers.{losses}
 use Rattle.rules.specs.Runs.{Event, history}
 
@@ -40,7 +41,7 @@ pub record Line : Type 0 where
   pub leaves : List Stored
 
 abbrev pub line : Step → Answer → List Stored → Line
-line x a l = record { step = x; answer = a; leaves = l }
+line x answered leaves = record { step = x; answer = answered; leaves = leaves }
 
 -- a channel list, an image, and the steps one after another
 pub record Scenario : Type 0 where
@@ -52,17 +53,17 @@ abbrev pub scenario : List Channel → Image → List Line → Scenario
 scenario cs m ls = record { channels = cs; start = m; lines = ls }
 
 -- what the rules make of a scenario: the answer and the image after each step
-abbrev pub does : Scenario → List Outcome
-does e = map (λ (v : Event). v .outcome) (history (state (e .start)) (e .channels) (map (λ (l : Line). l .step) (e .lines)))
+abbrev pub does : Scenario → List (Outcome Answer State)
+does example = map (λ (e : Event). e .outcome) (history (state (example .start)) (example .channels) (map (λ (l : Line). l .step) (example .lines)))
 
--- the paper's line for each step: its answer, and the image with the bytes that change; a byte that the paper doesn't print is as the rules leave it
-abbrev pub saysFrom : Image → List Line → List Outcome
+-- the paper's line for each step: its answer, and the image with the bytes that change; where the paper prints only some of these, we filled in the others
+abbrev pub saysFrom : Image → List Line → List (Outcome Answer State)
 saysFrom m [] = []
 saysFrom m (l ∷ ls) = outcome (l .answer) (state (storing m (l .leaves))) ∷ saysFrom (storing m (l .leaves)) ls
 
--- the same of a scenario
-abbrev pub says : Scenario → List Outcome
-says e = saysFrom (e .start) (e .lines)
+-- of a scenario
+abbrev pub says : Scenario → List (Outcome Answer State)
+says example = saysFrom (example .start) (example .lines)
 
 -- ---- the images
 
@@ -193,3 +194,7 @@ c13 = scenario [] (image ((NICR ↤ 0x80) ∷ [])) (line (step.Write NICR 0x00) 
 unfoldable pub examples : List (List Scenario)
 unfolding c01 c02 c03 c04 c05 c06 c07 c08 c09 c10 c11 c12 c13
 examples = c01 ∷ c02 ∷ c03 ∷ c04 ∷ c05 ∷ c06 ∷ c07 ∷ c08 ∷ c09 ∷ c10 ∷ c11 ∷ c12 ∷ c13 ∷ []
+
+-- the one claim: each does what the paper says, answers and whole images
+abbrev pub ExamplesHold : Type 0
+ExamplesHold = map (map does) examples ≡ map (map says) examples

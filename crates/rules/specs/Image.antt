@@ -7,20 +7,13 @@ use lib.Dec.{eqb}
 use lib.ListN.{getD, set}
 use Rattle.bits.specs.Bits.{bit, putBit}
 
--- the bytes of an image, in order
+-- the bytes of an image, in order. No rule asks that they are below 256: what is lent are bytes by their type
 abbrev pub Image : Type 0
 Image = List ℕ
 
 -- an image has exactly 1,265 bytes
 abbrev pub imageLength : ℕ
 imageLength = 1265
-
--- all that a caller lends to be changed
-pub record State : Type 0 where
-  pub image : Image
-
-abbrev pub state : Image → State
-state m = record { image = m }
 
 -- the byte at a place
 abbrev pub at : Image → ℕ → ℕ
@@ -75,11 +68,11 @@ bitOf i k = record { byte = i; number = k }
 
 -- the bit is 1
 abbrev pub has : Image → Bit → Bool
-has m b = bit (b .number) (at m (b .byte))
+has m flag = bit (flag .number) (at m (flag .byte))
 
 -- the image with the bit made 1 or 0, and nothing else changed
 unfoldable pub put : Image → Bit → Bool → Image
-put m b v = set m (b .byte) (putBit (b .number) v (at m (b .byte)))
+put m flag on = set m (flag .byte) (putBit (flag .number) on (at m (flag .byte)))
 
 -- CICR: 7 GCEN, 6 TLIP, 5 TLI, 4 IEN, 3 IAM, 2:0 CPL
 abbrev pub TLIP : Bit

@@ -1,55 +1,95 @@
--- What a rule answers and leaves. Assumes nothing.
-use mathlib.Core.Bool.{Bool, true, false}
+-- What is lent to be changed, what a call answers and leaves of it, and refusals. Assumes nothing.
+use mathlib.Core.Bool.{Bool, true, false, cond}
+use Prim.Native.Nat.{ℕ}
+use lib.Dec.{eqb}
 use Rattle.rules.specs.declared.Answer.{Answer}
 use Rattle.rules.specs.declared.Answer.the-variants as answer
+use Rattle.rules.specs.declared.AnswerKind.{AnswerKind}
+use Rattle.rules.specs.declared.AnswerKind.the-variants as kind
 use Rattle.rules.specs.declared.Refusal.{Refusal}
 use Rattle.rules.specs.declared.Verdict.{Verdict}
 use Rattle.rules.specs.declared.Verdict.the-variants as verdict
-use Rattle.rules.specs.Image.{Image, State, state}
+use Rattle.rules.specs.Image.{Image}
 
--- of a rule that concerns the image alone
-pub record Change : Type 0 where
-  pub answer : Answer
+-- all that a caller lends to be changed: the image
+pub record State : Type 0 where
   pub image : Image
 
-abbrev pub change : Answer → Image → Change
-change a m = record { answer = a; image = m }
+abbrev pub state : Image → State
+state m = record { image = m }
+
+-- what is answered, and what is left: of the image by a rule that concerns the image alone, of all that is lent by a step, a run and a wait report
+pub record Outcome (A L : Type 0) : Type 0 where
+  pub answer : A
+  pub left : L
+
+abbrev pub outcome : {A L : Type 0} → A → L → Outcome A L
+outcome answered left = record { answer = answered; left = left }
+
+-- what a rule of the image alone answers and leaves, as a step on the state s: whatever else s has stays, and it has nothing else
+abbrev pub changed : State → Outcome Answer Image → Outcome Answer State
+changed s o = outcome (o .answer) (state (o .left))
+
+-- ---- refusals
 
 -- a refusal gives its number only, and nothing changes
-abbrev pub refuse : Refusal → Image → Change
-refuse r m = change (answer.Refused r) m
+abbrev pub refuse : {L : Type 0} → Refusal → L → Outcome Answer L
+refuse reason lent = outcome (answer.Refused reason) lent
 
--- of a step
-pub record Outcome : Type 0 where
-  pub answer : Answer
-  pub state : State
+-- refused for this reason unless a rule is kept; else what comes next
+abbrev pub refusedUnless : Bool → Refusal → Verdict → Verdict
+refusedUnless kept reason next = cond kept next (verdict.Refused reason)
 
-abbrev pub outcome : Answer → State → Outcome
-outcome a s = record { answer = a; state = s }
+-- refused for this reason where a rule is broken; else what comes next
+abbrev pub refusedWhere : Bool → Refusal → Verdict → Verdict
+refusedWhere broken reason next = cond broken (verdict.Refused reason) next
 
--- a step that changes, of all that is lent, the image alone
-abbrev pub changed : State → Change → Outcome
-changed s c = outcome (c .answer) (state (c .image))
+-- what a verdict leads to: the refusal, or what is done where it accepts
+abbrev pub refusedOr : {A : Type 0} → Verdict → (Refusal → A) → A → A
+refusedOr verdict.Accepted refused done = done
+refusedOr (verdict.Refused reason) refused done = refused reason
+
+-- ---- what is asked of an answer
+
+-- by one look at all answers: a refusal, an acknowledged source, a trigger with what it did to the maskable bit, or none of these
+abbrev pub kindOf : Answer → AnswerKind
+kindOf answer.NoStep = kind.Plain
+kindOf (answer.Byte byte) = kind.Plain
+kindOf (answer.Written lost) = kind.Plain
+kindOf (answer.Triggered maskable top) = kind.Triggered maskable
+kindOf answer.Nothing = kind.Plain
+kindOf answer.TopLevel = kind.Plain
+kindOf (answer.Interrupt source level vector) = kind.Acknowledged source
+kindOf (answer.Transferred source ended) = kind.Plain
+kindOf answer.Returned = kind.Plain
+kindOf answer.Reset = kind.Plain
+kindOf (answer.Refused reason) = kind.Refused reason
 
 -- whether an answer is a refusal, and which
+abbrev pub kindVerdict : AnswerKind → Verdict
+kindVerdict kind.Plain = verdict.Accepted
+kindVerdict (kind.Triggered maskable) = verdict.Accepted
+kindVerdict (kind.Acknowledged source) = verdict.Accepted
+kindVerdict (kind.Refused reason) = verdict.Refused reason
+
 abbrev pub verdictOf : Answer → Verdict
-verdictOf answer.NoStep = verdict.Accepted
-verdictOf (answer.Byte b) = verdict.Accepted
-verdictOf (answer.Written l) = verdict.Accepted
-verdictOf (answer.Triggered e f) = verdict.Accepted
-verdictOf answer.Nothing = verdict.Accepted
-verdictOf answer.TopLevel = verdict.Accepted
-verdictOf (answer.Interrupt s l v) = verdict.Accepted
-verdictOf (answer.Transferred s e) = verdict.Accepted
-verdictOf answer.Returned = verdict.Accepted
-verdictOf answer.Reset = verdict.Accepted
-verdictOf (answer.Refused r) = verdict.Refused r
+verdictOf answered = kindVerdict (kindOf answered)
 
 -- a verdict that refuses
 abbrev pub refuses : Verdict → Bool
 refuses verdict.Accepted = false
-refuses (verdict.Refused r) = true
+refuses (verdict.Refused reason) = true
 
--- an answer that is a refusal
+-- whether it is one
 abbrev pub isRefused : Answer → Bool
-isRefused a = refuses (verdictOf a)
+isRefused answered = refuses (verdictOf answered)
+
+-- a source is acknowledged by an arbitration that answers it as an interrupt
+abbrev pub kindAcknowledges : ℕ → AnswerKind → Bool
+kindAcknowledges source kind.Plain = false
+kindAcknowledges source (kind.Triggered maskable) = false
+kindAcknowledges source (kind.Acknowledged acknowledged) = eqb acknowledged source
+kindAcknowledges source (kind.Refused reason) = false
+
+abbrev pub acknowledges : ℕ → Answer → Bool
+acknowledges source answered = kindAcknowledges source (kindOf answered)

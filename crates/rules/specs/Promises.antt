@@ -1,7 +1,7 @@
 -- The public promises by name: what a call answers and leaves of the lent image, in the rules' words, for every image, list and argument.
 -- Assumes nothing.
 use mathlib.Core.Path.{_≡_}
-use mathlib.Core.List.{List, [], _∷_}
+use mathlib.Core.List.{List}
 use Prim.Native.Nat.{ℕ, _≤_}
 use Rattle.rules.specs.declared.Channel.{Channel}
 use Rattle.rules.specs.declared.Trigger.{Trigger}
@@ -13,146 +13,145 @@ use Rattle.rules.specs.declared.Ran.{Ran}
 use Rattle.rules.specs.declared.Waited.{Waited}
 use Rattle.rules.specs.declared.Bounded.{Bounded}
 use Rattle.rules.specs.declared.Flat.{Flat}
-use Rattle.rules.specs.Image.{Image, state}
+use Rattle.rules.specs.Image.{Image}
+use Rattle.rules.specs.Outcomes.{state}
 use Rattle.rules.specs.Registers.{viewOf, viewVerdict}
-use Rattle.rules.specs.Outcomes.{outcome}
 use Rattle.rules.specs.Sources.{pending}
-use Rattle.rules.specs.Steps.{stepOf, decodeOf, stepsOf}
-use Rattle.rules.specs.Runs.{Event, eventOf, stateAfter, runOf, waitOf}
-use Rattle.rules.specs.Waiting.{Demand3Of, Demand3OfRun, Demand3OfWait}
-use Rattle.rules.specs.Handlers.{HandlersOf, EnabledHandlersOf, HandlersOfRun, HandlersOfWait}
-use Rattle.rules.specs.Bounds.{boundOf, whereBounded, BoundSays, WaitKeeps}
+use Rattle.rules.specs.Steps.{stepOf}
+use Rattle.rules.specs.Runs.{runOf, runHistory, waitOf}
+use Rattle.rules.specs.Claims.{ClaimsOf, WaitClaimsOf}
+use Rattle.rules.specs.Bounds.{boundOf, whereBounded, BoundSays, WaitInBound}
 use Rattle.rules.specs.HandlerBounds.{handlerBoundOf, HandlerBoundSays}
-use Rattle.rules.specs.Answers.{told, toldVerdict, toldRun, toldWait, toldBound}
+use Rattle.rules.specs.Encodings.{decodeOf, stepsOf, listIn, told, toldVerdict, toldRun, toldWait, toldBound}
 
--- one step answers a and leaves `after`
+-- ---- one step
+
+-- it answers this and leaves `after`. Two answers with the same numbers are one (proofs/Told), here and below
 abbrev pub Does : Image → List Channel → Step → Answer → Image → Type 0
-Does before cs x a after = (told a ≡ told (stepOf (state before) cs x .answer)) × (after ≡ stepOf (state before) cs x .state .image)
+Does before cs x answered after =
+    let o = stepOf (state before) cs x in
+    (told answered ≡ told (o .answer)) × (after ≡ o .left .image)
 
--- a read leaves the image as it was
+-- a read: the image is lent to be read only, so its type keeps every byte, and the promise has the answer alone
 abbrev pub Reads : Image → List Channel → ℕ → Answer → Type 0
-Reads before cs r a = Does before cs (step.Read r) a before
+Reads lent cs r answered = told answered ≡ told (stepOf (state lent) cs (step.Read r) .answer)
 
 -- a write of v to register r
 abbrev pub Writes : Image → List Channel → ℕ → ℕ → Answer → Image → Type 0
-Writes before cs r v a after = Does before cs (step.Write r v) a after
+Writes before cs r v answered after = Does before cs (step.Write r v) answered after
 
 -- a trigger
 abbrev pub Triggers : Image → List Channel → Trigger → Answer → Image → Type 0
-Triggers before cs t a after = Does before cs (step.Trigger t) a after
+Triggers before cs t answered after = Does before cs (step.Trigger t) answered after
 
 -- an arbitration
 abbrev pub Arbitrates : Image → List Channel → Answer → Image → Type 0
-Arbitrates before cs a after = Does before cs step.Arbitrate a after
+Arbitrates before cs answered after = Does before cs step.Arbitrate answered after
 
 -- a return
 abbrev pub Returns : Image → List Channel → Answer → Image → Type 0
-Returns before cs a after = Does before cs step.Return a after
+Returns before cs answered after = Does before cs step.Return answered after
 
 -- a reset
 abbrev pub Resets : Image → List Channel → Answer → Image → Type 0
-Resets before cs a after = Does before cs step.Reset a after
+Resets before cs answered after = Does before cs step.Reset answered after
 
 -- the step that a word stands for
 abbrev pub DoesWord : Image → List Channel → ℕ → Answer → Image → Type 0
-DoesWord before cs w a after = Does before cs (decodeOf w) a after
+DoesWord before cs word answered after = Does before cs (decodeOf word) answered after
+
+-- ---- runs and wait reports
 
 -- a run of a list of words
 abbrev pub Runs : Image → List Channel → List ℕ → Ran → Image → Type 0
-Runs before cs words r after =
-    (toldRun r ≡ toldRun (runOf (state before) cs (stepsOf words) .answer)) × (after ≡ runOf (state before) cs (stepsOf words) .state .image)
+Runs before cs words answered after =
+    let o = runOf (state before) cs (stepsOf words) in
+    (toldRun answered ≡ toldRun (o .answer)) × (after ≡ o .left .image)
 
--- and what demand 3 and Handlers say of it
+-- that, and what demand 3, Handlers and EnabledHandlers say of the steps that it did
 abbrev pub RunClaims : Image → List Channel → List ℕ → Ran → Image → Type 0
-RunClaims before cs words r after =
-    Runs before cs words r after × Demand3OfRun before cs (stepsOf words) after × HandlersOfRun before cs (stepsOf words) after
+RunClaims before cs words answered after =
+    Runs before cs words answered after × ClaimsOf (state before) cs (runHistory (state before) cs (stepsOf words)) after
 
 -- a wait report for a source over a list of words
 abbrev pub Waits : Image → List Channel → ℕ → List ℕ → Waited → Image → Type 0
-Waits before cs source words w after =
-    (toldWait w ≡ toldWait (waitOf (state before) cs source (stepsOf words) .answer))
-    × (after ≡ waitOf (state before) cs source (stepsOf words) .state .image)
+Waits before cs source words answered after =
+    let o = waitOf (state before) cs source (stepsOf words) in
+    (toldWait answered ≡ toldWait (o .answer)) × (after ≡ o .left .image)
 
--- and what demand 3 and Handlers say of it
+-- that, and what demand 3, Handlers and EnabledHandlers say of the steps that it did, and the first two of its answer
 abbrev pub WaitClaims : Image → List Channel → ℕ → List ℕ → Waited → Image → Type 0
-WaitClaims before cs source words w after =
-    Waits before cs source words w after × Demand3OfWait before cs source (stepsOf words) w after × HandlersOfWait before cs source (stepsOf words) w after
+WaitClaims before cs source words answered after =
+    Waits before cs source words answered after × WaitClaimsOf (state before) cs source (stepsOf words) answered after
 
--- demand 3's bound for a source over a list of words; the image is only read
+-- ---- the bounds; the image is only read
+
+-- demand 3's bound for a source over a list of words
 abbrev pub Bounds : Image → List Channel → ℕ → List ℕ → Bounded → Type 0
-Bounds before cs source words b = toldBound b ≡ toldBound (boundOf (state before) cs source (stepsOf words))
+Bounds lent cs source words answered = toldBound answered ≡ toldBound (boundOf (state lent) cs source (stepsOf words))
 
--- and what it says
+-- that, and that a bound is answered exactly where the premises hold
 abbrev pub BoundClaims : Image → List Channel → ℕ → List ℕ → Bounded → Type 0
-BoundClaims before cs source words b = Bounds before cs source words b × BoundSays before cs source (stepsOf words) b
+BoundClaims lent cs source words answered = Bounds lent cs source words answered × BoundSays (state lent) cs source (stepsOf words) answered
 
--- what it says of a wait report on the same image, list, source and words
-abbrev pub BoundWaits : Type 0
-BoundWaits =
-    (m : Image) (cs : List Channel) (source : ℕ) (words : List ℕ) (b : Bounded) (w : Waited) (after : Image)
-    → Bounds m cs source words b → Waits m cs source words w after → WaitKeeps b w (pending after cs source)
-
--- the bound of Handlers, likewise
+-- the bound of Handlers for a source over a list of words
 abbrev pub HandlerBounds : Image → List Channel → ℕ → List ℕ → Bounded → Type 0
-HandlerBounds before cs source words b = toldBound b ≡ toldBound (handlerBoundOf (state before) cs source (stepsOf words))
+HandlerBounds lent cs source words answered = toldBound answered ≡ toldBound (handlerBoundOf (state lent) cs source (stepsOf words))
 
+-- that, and that a bound is answered exactly where the premises hold
 abbrev pub HandlerBoundClaims : Image → List Channel → ℕ → List ℕ → Bounded → Type 0
-HandlerBoundClaims before cs source words b = HandlerBounds before cs source words b × HandlerBoundSays before cs source (stepsOf words) b
-
-abbrev pub HandlerBoundWaits : Type 0
-HandlerBoundWaits =
-    (m : Image) (cs : List Channel) (source : ℕ) (words : List ℕ) (b : Bounded) (w : Waited) (after : Image)
-    → HandlerBounds m cs source words b → Waits m cs source words w after → WaitKeeps b w (pending after cs source)
-
--- where demand 3's bound is answered this one is too, of the same H, and it is no larger
-abbrev pub HandlerBoundNotAbove : Type 0
-HandlerBoundNotAbove =
-    (m : Image) (cs : List Channel) (source : ℕ) (words : List ℕ) (b b' : Bounded) → Bounds m cs source words b → HandlerBounds m cs source words b'
-    → whereBounded (λ h e k. whereBounded (λ h' e' k'. (h' ≡ h) × (e' ≤ e) × (k' ≤ k)) ⊥ b') (Unit {0}) b
-
--- ---- calls one after another: each gets the image that the call before it left, and the same channel list
-
--- a call that was made: its step, what it answered and what it left
-pub record Made : Type 0 where
-  pub step : Step
-  pub answer : Answer
-  pub after : Image
-
--- each kept its promise
-abbrev pub AllDo : Image → List Channel → List Made → Type 0
-AllDo before cs [] = Unit {0}
-AllDo before cs (c ∷ made) = Does before cs (c .step) (c .answer) (c .after) × AllDo (c .after) cs made
-
--- the events that they are
-unfoldable pub eventsOf : Image → List Made → List Event
-eventsOf before [] = []
-eventsOf before (c ∷ made) =
-    eventOf (state before) (c .step) (outcome (c .answer) (state (c .after))) ∷ eventsOf (c .after) made
-
--- what demand 3 says of them
-abbrev pub CallsDemand3 : Type 0
-CallsDemand3 =
-    (m : Image) (cs : List Channel) (made : List Made) → AllDo m cs made
-    → Demand3Of m cs (eventsOf m made) (stateAfter (state m) (eventsOf m made) .image)
-
--- what Handlers says of them
-abbrev pub CallsHandlers : Type 0
-CallsHandlers =
-    (m : Image) (cs : List Channel) (made : List Made) → AllDo m cs made
-    → HandlersOf m cs (eventsOf m made) (stateAfter (state m) (eventsOf m made) .image) × EnabledHandlersOf m cs (eventsOf m made)
+HandlerBoundClaims lent cs source words answered =
+    HandlerBounds lent cs source words answered × HandlerBoundSays (state lent) cs source (stepsOf words) answered
 
 -- ---- the view
 
--- the view of a page
+-- the view of a page; that it is a part of the lent image, and no copy, is in its type
 abbrev pub Views : Image → ℕ → List ℕ → Type 0
-Views before p part = part ≡ viewOf before p
+Views lent p part = part ≡ viewOf lent p
 
 -- the number of a refused view, 0 for an accepted one
 abbrev pub ViewRefuses : Image → ℕ → Verdict → Type 0
-ViewRefuses before p v = toldVerdict v ≡ toldVerdict (viewVerdict before p)
+ViewRefuses lent p answered = toldVerdict answered ≡ toldVerdict (viewVerdict lent p)
 
--- ---- the exports for C: each answers in numbers what a public function of the same arguments promises, with the channel list as bytes (Channels `listIn`)
+-- ---- the exports for C: each answers in numbers what the public function promises, for the channel list that the bytes stand for
 
--- f tells an answer that keeps the promise P
+-- the numbers tell an answer that keeps the promise
 abbrev pub Tells : {A : Type 0} → (A → Flat) → (A → Type 0) → Flat → Type 0
-Tells {A} tells P f = (a : A) × (f ≡ tells a) × P a
+Tells {A} tells Promise numbers = (answered : A) × (numbers ≡ tells answered) × Promise answered
+
+abbrev pub TellsStep : Image → List ℕ → ℕ → Flat → Image → Type 0
+TellsStep before bytes word numbers after = Tells told (λ answered. DoesWord before (listIn bytes) word answered after) numbers
+
+abbrev pub TellsRun : Image → List ℕ → List ℕ → Flat → Image → Type 0
+TellsRun before bytes words numbers after = Tells toldRun (λ answered. RunClaims before (listIn bytes) words answered after) numbers
+
+abbrev pub TellsWait : Image → List ℕ → ℕ → List ℕ → Flat → Image → Type 0
+TellsWait before bytes source words numbers after = Tells toldWait (λ answered. WaitClaims before (listIn bytes) source words answered after) numbers
+
+abbrev pub TellsBound : Image → List ℕ → ℕ → List ℕ → Flat → Type 0
+TellsBound lent bytes source words numbers = Tells toldBound (λ answered. BoundClaims lent (listIn bytes) source words answered) numbers
+
+abbrev pub TellsHandlerBound : Image → List ℕ → ℕ → List ℕ → Flat → Type 0
+TellsHandlerBound lent bytes source words numbers = Tells toldBound (λ answered. HandlerBoundClaims lent (listIn bytes) source words answered) numbers
+
+-- ---- what the promises of two calls on the same image, list, source and words imply
+
+-- a wait report is within demand 3's bound
+abbrev pub BoundWaits : Type 0
+BoundWaits =
+    (m : Image) (cs : List Channel) (source : ℕ) (words : List ℕ) (b : Bounded) (w : Waited) (after : Image)
+    → Bounds m cs source words b → Waits m cs source words w after → WaitInBound b w (pending after cs source)
+
+-- and within that of Handlers
+abbrev pub HandlerBoundWaits : Type 0
+HandlerBoundWaits =
+    (m : Image) (cs : List Channel) (source : ℕ) (words : List ℕ) (b : Bounded) (w : Waited) (after : Image)
+    → HandlerBounds m cs source words b → Waits m cs source words w after → WaitInBound b w (pending after cs source)
+
+-- where demand 3's bound is answered that of Handlers is too, with the same H, and it is no larger
+abbrev pub HandlerBoundNotAbove : Type 0
+HandlerBoundNotAbove =
+    (m : Image) (cs : List Channel) (source : ℕ) (words : List ℕ) (b b' : Bounded) → Bounds m cs source words b → HandlerBounds m cs source words b'
+    → whereBounded
+    (λ outranking triggers bound. whereBounded (λ outranking' triggers' bound'. (outranking' ≡ outranking) × (triggers' ≤ triggers) × (bound' ≤ bound)) ⊥ b')
+    (Unit {0}) b

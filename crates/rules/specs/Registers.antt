@@ -18,7 +18,7 @@ use Rattle.rules.specs.declared.Verdict.the-variants as verdict
 use Rattle.rules.specs.Image.{Image, imageLength, at, pageByte, PPR, EIPR, NICR, MARK}
 use Rattle.rules.specs.Table.{Row, rowAt, rowCount, rowPlace, existingBits}
 use Rattle.rules.specs.Channels.{between}
-use Rattle.rules.specs.Outcomes.{Change, change, refuse}
+use Rattle.rules.specs.Outcomes.{Outcome, outcome, refuse, refusedUnless, refusedOr}
 
 -- ---- where a register number goes
 
@@ -32,21 +32,21 @@ pageZero r = cond (between 242 247 r) (At (pageByte 0 r) (existingBits r)) Unmod
 
 -- register r of page p, where it is one of a record's: IDCR has bits 5:0, the other four have all eight
 unfoldable pub recordPlace : Channel → ℕ → ℕ → Place
-recordPlace c p r =
-    cond (eqb p (c .page))
-    (cond (eqb r (c .idcr)) (At (pageByte p r) 0x3f)
-    (cond (eqb r (c .ivr) || eqb r (c .dcpr) || eqb r (c .dapr) || eqb r (c .io)) (At (pageByte p r) 0xff) Unmodelled))
+recordPlace channel p r =
+    cond (eqb p (channel .page))
+    (cond (eqb r (channel .idcr)) (At (pageByte p r) 0x3f)
+    (cond (eqb r (channel .ivr) || eqb r (channel .dcpr) || eqb r (channel .dapr) || eqb r (channel .io)) (At (pageByte p r) 0xff) Unmodelled))
     Unmodelled
 
--- the first of two places that is one
+-- the first of two places, the second where that is unmodelled
 abbrev pub orPlace : Place → Place → Place
-orPlace (At i e) other = At i e
+orPlace (At i existing) other = At i existing
 orPlace Unmodelled other = other
 
 -- register r of page p, where it is one of any record's
 unfoldable pub recordsPlace : List Channel → ℕ → ℕ → Place
 recordsPlace [] p r = Unmodelled
-recordsPlace (c ∷ cs) p r = orPlace (recordPlace c p r) (recordsPlace cs p r)
+recordsPlace (channel ∷ cs) p r = orPlace (recordPlace channel p r) (recordsPlace cs p r)
 
 -- R0 to R239 stand at their own number; page 0 is the part's, the other pages the records'
 unfoldable pub placeOf : Image → List Channel → ℕ → Place
@@ -58,7 +58,7 @@ placeOf m cs r =
 
 -- a read gives the stored byte with absent bits as 0
 abbrev pub readAt : Image → Place → Answer
-readAt m (At i e) = answer.Byte (bitAnd (at m i) e)
+readAt m (At i existing) = answer.Byte (bitAnd (at m i) existing)
 readAt m Unmodelled = answer.Refused refusal.Register
 
 -- read register r; 3 where it is not modelled
@@ -69,57 +69,51 @@ readOf m cs r = readAt m (placeOf m cs r)
 
 -- the byte that a write of v over `old` stores: the existing bits and 0 in the absent ones; but TLNM is the old bit or the written one
 unfoldable pub storedByte : ℕ → ℕ → ℕ → ℕ → ℕ
-storedByte i e old v = cond (eqb i NICR) (bitOr (bitAnd v e) (bitAnd old 0x80)) (bitAnd v e)
+storedByte i existing old v = cond (eqb i NICR) (bitOr (bitAnd v existing) (bitAnd old 0x80)) (bitAnd v existing)
 
 -- the EIPR bits that it takes from 1 to 0, 00h for every other register
 unfoldable pub lostBits : ℕ → ℕ → ℕ → ℕ
 lostBits i old new = cond (eqb i EIPR) (bitAnd old (255 - new)) 0x00
 
 abbrev pub losses : ℕ → Losses
-losses b = record { eipr = b }
+losses erased = record { eipr = erased }
 
 -- a write changes the addressed byte only
-unfoldable pub writeAt : Image → Place → ℕ → Change
-writeAt m (At i e) v =
-    let new = storedByte i e (at m i) v in
-    change (answer.Written (losses (lostBits i (at m i) new))) (set m i new)
+unfoldable pub writeAt : Image → Place → ℕ → Outcome Answer Image
+writeAt m (At i existing) v =
+    let new = storedByte i existing (at m i) v in
+    outcome (answer.Written (losses (lostBits i (at m i) new))) (set m i new)
 writeAt m Unmodelled v = refuse refusal.Register m
 
 -- write v to register r; 3 where it is not modelled
-unfoldable pub writeOf : Image → List Channel → ℕ → ℕ → Change
+unfoldable pub writeOf : Image → List Channel → ℕ → ℕ → Outcome Answer Image
 writeOf m cs r v = writeAt m (placeOf m cs r) v
 
 -- ---- reset
 
 -- a byte with the bits that reset changes replaced
 unfoldable pub resetByte : Row → ℕ → ℕ
-resetByte w old = bitOr (bitAnd old (255 - w .reset)) (w .value)
+resetByte entry old = bitOr (bitAnd old (255 - entry .reset)) (entry .value)
 
--- row k of the table
+-- the image with the register of row k reset
 unfoldable pub resetRow : ℕ → Image → Image
 resetRow k m = set m (rowPlace k) (resetByte (rowAt k) (at m (rowPlace k)))
 
--- the first n rows of the table
+-- the image with those of the first n rows reset
 unfoldable pub resetRows : ℕ → Image → Image
 resetRows zero m = m
 resetRows (suc n) m = resetRow n (resetRows n m)
 
 -- reset clears the mark and changes nothing else beyond the table
-unfoldable pub resetOf : Image → Change
-resetOf m = change answer.Reset (set (resetRows rowCount m) MARK 0)
+unfoldable pub resetOf : Image → Outcome Answer Image
+resetOf m = outcome answer.Reset (set (resetRows rowCount m) MARK 0)
 
 -- ---- view
 
--- refused with 1, then 3 for a page over 63
+-- refused with 1 where the image's length is not 1,265, then with 3 where the page is over 63
 unfoldable pub viewVerdict : Image → ℕ → Verdict
-viewVerdict m p =
-    cond (eqb (length m) imageLength) (cond (leb p 63) verdict.Accepted (verdict.Refused refusal.Register)) (verdict.Refused refusal.Length)
+viewVerdict m p = refusedUnless (eqb (length m) imageLength) refusal.Length (refusedUnless (leb p 63) refusal.Register verdict.Accepted)
 
--- the sixteen bytes of the page as stored; a refused view is an empty part
-abbrev pub viewIf : Verdict → Image → ℕ → List ℕ
-viewIf verdict.Accepted m p = take 16 (drop (pageByte p 240) m)
-viewIf (verdict.Refused r) m p = []
-
--- the view of page p, whatever PPR holds
+-- the sixteen bytes of page p as stored, whatever PPR holds; a refused view is an empty part
 unfoldable pub viewOf : Image → ℕ → List ℕ
-viewOf m p = viewIf (viewVerdict m p) m p
+viewOf m p = refusedOr (viewVerdict m p) (λ reason. []) (take 16 (drop (pageByte p 240) m))

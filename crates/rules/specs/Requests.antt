@@ -14,9 +14,9 @@ use Rattle.rules.specs.Sources.{sources, pending, unmasked, dmaEnabled, 
 
 -- rule 3: a pending source requests DMA if that is enabled, else an interrupt if it is unmasked, else nothing
 unfoldable pub requestOf : Image → List Channel → ℕ → Request
-requestOf m cs s =
-    cond (pending m cs s)
-    (cond (dmaEnabled m cs s) (request.Dma (level m cs s)) (cond (unmasked m cs s) (request.Interrupt (level m cs s)) request.Nothing))
+requestOf m cs source =
+    cond (pending m cs source)
+    (cond (dmaEnabled m cs source) (request.Dma (level m cs source)) (cond (unmasked m cs source) (request.Interrupt (level m cs source)) request.Nothing))
     request.Nothing
 
 -- rule 4: the level number is strictly below CPL and, for an interrupt, IEN = 1 (house reading: DMA whatever IEN is)
@@ -25,25 +25,39 @@ eligible m request.Nothing = false
 eligible m (request.Dma l) = ltb l (CPL m)
 eligible m (request.Interrupt l) = has m IEN && ltb l (CPL m)
 
--- the request is of this level and kind: 0 DMA, 1 interrupt
+-- the kinds of request, in the order in which they are tried within a level
+abbrev pub dma : ℕ
+dma = 0
+
+abbrev pub interrupt : ℕ
+interrupt = 1
+
+abbrev pub kindCount : ℕ
+kindCount = 2
+
+-- levels 0 to 7
+abbrev pub levelCount : ℕ
+levelCount = 8
+
+-- the request is of this level and kind
 unfoldable pub isAt : ℕ → ℕ → Request → Bool
 isAt l kind request.Nothing = false
-isAt l kind (request.Dma x) = eqb kind 0 && eqb x l
-isAt l kind (request.Interrupt x) = eqb kind 1 && eqb x l
+isAt l kind (request.Dma its) = eqb kind dma && eqb its l
+isAt l kind (request.Interrupt its) = eqb kind interrupt && eqb its l
 
 -- the winner of this level, kind and position
 unfoldable pub wonBy : ℕ → ℕ → ℕ → Winner
-wonBy l kind s = cond (eqb kind 0) (winner.Dma s) (winner.Interrupt s l)
+wonBy l kind source = cond (eqb kind dma) (winner.Dma source) (winner.Interrupt source l)
 
 -- what is found at a level, a kind and a position
 unfoldable pub candidate : Image → List Channel → ℕ → ℕ → ℕ → Winner
-candidate m cs l kind s = cond (eligible m (requestOf m cs s) && isAt l kind (requestOf m cs s)) (wonBy l kind s) winner.Nobody
+candidate m cs l kind source = cond (eligible m (requestOf m cs source) && isAt l kind (requestOf m cs source)) (wonBy l kind source) winner.Nobody
 
 -- the first of two that is somebody
 abbrev pub orWinner : Winner → Winner → Winner
 orWinner winner.Nobody other = other
-orWinner (winner.Dma s) other = winner.Dma s
-orWinner (winner.Interrupt s l) other = winner.Interrupt s l
+orWinner (winner.Dma source) other = winner.Dma source
+orWinner (winner.Interrupt source l) other = winner.Interrupt source l
 
 -- the first of f 0, f 1, .. f (n - 1) that is somebody
 unfoldable pub first : ℕ → (ℕ → Winner) → Winner
@@ -56,8 +70,8 @@ winnerOfKind m cs l kind = first (sources cs) (candidate m cs l kind)
 
 -- within a level DMA before interrupt,
 unfoldable pub winnerAtLevel : Image → List Channel → ℕ → Winner
-winnerAtLevel m cs l = first 2 (winnerOfKind m cs l)
+winnerAtLevel m cs l = first kindCount (winnerOfKind m cs l)
 
 -- and levels from 0 up: the first eligible request wins
 unfoldable pub winnerOf : Image → List Channel → Winner
-winnerOf m cs = first 8 (winnerAtLevel m cs)
+winnerOf m cs = first levelCount (winnerAtLevel m cs)

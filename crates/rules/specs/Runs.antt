@@ -3,7 +3,7 @@
 use mathlib.Core.Bool.{Bool, true, false, cond, not, _&&_, _||_}
 use mathlib.Core.List.{List, [], _∷_}
 use Prim.Native.Nat.{ℕ, _+_}
-use lib.Dec.{eqb, ltb}
+use lib.Dec.{ltb}
 use Rattle.rules.specs.declared.Channel.{Channel}
 use Rattle.rules.specs.declared.Step.{Step}
 use Rattle.rules.specs.declared.Step.the-variants as step
@@ -16,10 +16,9 @@ use Rattle.rules.specs.declared.Ran.{Ran}
 use Rattle.rules.specs.declared.Ran.the-variants as ran
 use Rattle.rules.specs.declared.Waited.{Waited}
 use Rattle.rules.specs.declared.Waited.the-variants as waited
-use Rattle.rules.specs.Image.{State}
-use Rattle.rules.specs.Outcomes.{Outcome, verdictOf, isRefused}
+use Rattle.rules.specs.Outcomes.{State, Outcome, outcome, refusedUnless, refusedOr, verdictOf, isRefused, acknowledges}
 use Rattle.rules.specs.Sources.{sources}
-use Rattle.rules.specs.Steps.{stepOf, lentVerdict}
+use Rattle.rules.specs.Steps.{lentVerdict, stepOf}
 
 -- ---- the history
 
@@ -27,40 +26,40 @@ use Rattle.rules.specs.Steps.{stepOf, lentVerdict}
 pub record Event : Type 0 where
   pub before : State
   pub step : Step
-  pub outcome : Outcome
+  pub outcome : Outcome Answer State
 
 -- the event of a step that got s and answered and left o
-abbrev pub eventOf : State → Step → Outcome → Event
+abbrev pub eventOf : State → Step → Outcome Answer State → Event
 eventOf s x o = record { before = s; step = x; outcome = o }
 
 -- each step gets the state that the one before it left, a refused one too (which leaves what it got)
 unfoldable pub history : State → List Channel → List Step → List Event
 history s cs [] = []
-history s cs (x ∷ xs) = let o = stepOf s cs x in eventOf s x o ∷ history (o .state) cs xs
+history s cs (x ∷ xs) = let o = stepOf s cs x in eventOf s x o ∷ history (o .left) cs xs
 
 -- the state after the last of some events
 unfoldable pub stateAfter : State → List Event → State
 stateAfter s [] = s
-stateAfter s (e ∷ es) = stateAfter (e .outcome .state) es
+stateAfter s (e ∷ es) = stateAfter (e .outcome .left) es
 
--- one of the events is of a kind, which is a test of events
+-- one of the events passes a test
 unfoldable pub anyEvent : (Event → Bool) → List Event → Bool
-anyEvent p [] = false
-anyEvent p (e ∷ es) = p e || anyEvent p es
+anyEvent test [] = false
+anyEvent test (e ∷ es) = test e || anyEvent test es
 
--- 1 where a test holds, else 0
+-- 1 where a test is passed, else 0
 abbrev pub oneIf : Bool → ℕ
-oneIf b = cond b 1 0
+oneIf passed = cond passed 1 0
 
--- how many of the events are of a kind
+-- how many of the events pass a test
 unfoldable pub counted : (Event → Bool) → List Event → ℕ
-counted p [] = 0
-counted p (e ∷ es) = oneIf (p e) + counted p es
+counted test [] = 0
+counted test (e ∷ es) = oneIf (test e) + counted test es
 
--- the events up to the first of a kind, with it
+-- the events up to the first that passes a test, with it; all where none does
 unfoldable pub until : (Event → Bool) → List Event → List Event
-until p [] = []
-until p (e ∷ es) = e ∷ cond (p e) [] (until p es)
+until test [] = []
+until test (e ∷ es) = e ∷ cond (test e) [] (until test es)
 
 -- the event's step was refused
 abbrev pub eventRefused : Event → Bool
@@ -70,66 +69,42 @@ eventRefused e = isRefused (e .outcome .answer)
 abbrev pub stepsDone : List Event → ℕ
 stepsDone es = counted (λ e. not (eventRefused e)) es
 
+-- the answer of the last event, or the given one where there is none
+unfoldable pub lastAnswer : Answer → List Event → Answer
+lastAnswer answered [] = answered
+lastAnswer answered (e ∷ es) = lastAnswer (e .outcome .answer) es
+
 -- ---- the run
 
 -- a run ends with the first step that is refused
 abbrev pub runEvents : State → List Channel → List Step → List Event
 runEvents s cs xs = until eventRefused (history s cs xs)
 
--- the answer of the last step, `a` where there is none
-unfoldable pub lastAnswer : Answer → List Event → Answer
-lastAnswer a [] = a
-lastAnswer a (e ∷ es) = lastAnswer (e .outcome .answer) es
+-- how many steps were done and the answer of the last one; where that is a refusal, the number and its index, which is the number of steps done before it
+unfoldable pub runAnswer : List Event → Ran
+runAnswer es =
+    let last = lastAnswer answer.NoStep es in
+    refusedOr (verdictOf last) (λ reason. ran.RefusedAt reason (stepsDone es)) (ran.Done (stepsDone es) last)
 
--- a run whose last step, after n done, answered a and was accepted or refused
-abbrev pub ranIf : Verdict → ℕ → Answer → Ran
-ranIf verdict.Accepted n a = ran.Done n a
-ranIf (verdict.Refused r) n a = ran.RefusedAt r n
+-- a run: refused before any step with 1, then 2; else the steps one after another, each with its own refusals (Steps `actOf`)
+unfoldable pub runOf : State → List Channel → List Step → Outcome Ran State
+runOf s cs xs =
+    let es = runEvents s cs xs in
+    refusedOr (lentVerdict s cs) (λ reason. outcome (ran.Refused reason) s) (outcome (runAnswer es) (stateAfter s es))
 
--- what a run answers and leaves
-pub record RunOutcome : Type 0 where
-  pub answer : Ran
-  pub state : State
-
-abbrev pub runOutcome : Ran → State → RunOutcome
-runOutcome r s = record { answer = r; state = s }
-
--- what a run answers and leaves of its events, n steps after its start, the last of which answered a
-unfoldable pub runReport : State → ℕ → Answer → List Event → RunOutcome
-runReport s n a es = runOutcome (ranIf (verdictOf (lastAnswer a es)) (n + stepsDone es) (lastAnswer a es)) (stateAfter s es)
-
--- the run, or the refusal of what is lent
-abbrev pub runIf : Verdict → State → List Channel → List Step → RunOutcome
-runIf verdict.Accepted s cs xs = runReport s 0 answer.NoStep (runEvents s cs xs)
-runIf (verdict.Refused r) s cs xs = runOutcome (ran.Refused r) s
-
--- refused with 1 or 2 before any step, else the steps one after another
-unfoldable pub runOf : State → List Channel → List Step → RunOutcome
-runOf s cs xs = runIf (lentVerdict s cs) s cs xs
+-- its events, a refused last one included; none where it is refused before any step
+abbrev pub runHistory : State → List Channel → List Step → List Event
+runHistory s cs xs = refusedOr (lentVerdict s cs) (λ reason. []) (runEvents s cs xs)
 
 -- ---- the wait report
 
--- a source is acknowledged by an arbitration that answers it as an interrupt
-abbrev pub acknowledges : ℕ → Answer → Bool
-acknowledges s answer.NoStep = false
-acknowledges s (answer.Byte b) = false
-acknowledges s (answer.Written l) = false
-acknowledges s (answer.Triggered e f) = false
-acknowledges s answer.Nothing = false
-acknowledges s answer.TopLevel = false
-acknowledges s (answer.Interrupt k l v) = eqb k s
-acknowledges s (answer.Transferred k e) = false
-acknowledges s answer.Returned = false
-acknowledges s answer.Reset = false
-acknowledges s (answer.Refused r) = false
-
 -- the event's step acknowledged the source
 abbrev pub eventAcknowledges : ℕ → Event → Bool
-eventAcknowledges s e = acknowledges s (e .outcome .answer)
+eventAcknowledges source e = acknowledges source (e .outcome .answer)
 
 -- the source is acknowledged among the events
 abbrev pub acknowledgedIn : ℕ → List Event → Bool
-acknowledgedIn s es = anyEvent (eventAcknowledges s) es
+acknowledgedIn source es = anyEvent (eventAcknowledges source) es
 
 -- an arbitration step
 abbrev pub isArbitration : Step → Bool
@@ -141,11 +116,11 @@ isArbitration step.Return = false
 isArbitration step.Reset = false
 isArbitration step.Unknown = false
 
--- the arbitrations made, each that isn't refused
+-- an arbitration that was made: one that isn't refused
 abbrev pub madeArbitration : Event → Bool
 madeArbitration e = isArbitration (e .step) && not (eventRefused e)
 
--- how many there are among the events
+-- how many arbitrations were made among the events
 abbrev pub arbitrationsIn : List Event → ℕ
 arbitrationsIn es = counted madeArbitration es
 
@@ -153,38 +128,25 @@ arbitrationsIn es = counted madeArbitration es
 abbrev pub waitEvents : State → List Channel → ℕ → List Step → List Event
 waitEvents s cs source xs = until (eventAcknowledges source) (runEvents s cs xs)
 
--- a wait whose last step, after n done and with k arbitrations made, answered a and was accepted or refused
-abbrev pub waitedIf : Verdict → ℕ → ℕ → ℕ → Answer → Waited
-waitedIf verdict.Accepted source n k a = cond (acknowledges source a) (waited.Acknowledged k) (waited.Ended k)
-waitedIf (verdict.Refused r) source n k a = waited.RefusedAt r n k
+-- by the last answer: a refusal with its number, its index and the arbitrations before it; the source acknowledged; or the list's end; with the arbitrations
+-- made, the last included
+unfoldable pub waitAnswer : ℕ → List Event → Waited
+waitAnswer source es =
+    let last = lastAnswer answer.NoStep es in
+    refusedOr (verdictOf last) (λ reason. waited.RefusedAt reason (stepsDone es) (arbitrationsIn es))
+    (cond (acknowledges source last) (waited.Acknowledged (arbitrationsIn es)) (waited.Ended (arbitrationsIn es)))
 
--- what a wait report answers and leaves
-pub record WaitOutcome : Type 0 where
-  pub answer : Waited
-  pub state : State
-
-abbrev pub waitOutcome : Waited → State → WaitOutcome
-waitOutcome w s = record { answer = w; state = s }
-
--- what a wait report answers and leaves of its events, n steps and k arbitrations after its start, the last of which answered a
-unfoldable pub waitReport : ℕ → State → ℕ → ℕ → Answer → List Event → WaitOutcome
-waitReport source s n k a es =
-    waitOutcome (waitedIf (verdictOf (lastAnswer a es)) source (n + stepsDone es) (k + arbitrationsIn es) (lastAnswer a es)) (stateAfter s es)
-
--- the source number is checked right after what is lent: 4 where there is no such source
-abbrev pub sourceIf : Verdict → List Channel → ℕ → Verdict
-sourceIf verdict.Accepted cs source = cond (ltb source (sources cs)) verdict.Accepted (verdict.Refused refusal.Number)
-sourceIf (verdict.Refused r) cs source = verdict.Refused r
-
--- refusals 1 and 2, then 4
+-- refused before any step with 1, then 2, then with 4 where there is no such source
 unfoldable pub waitVerdict : State → List Channel → ℕ → Verdict
-waitVerdict s cs source = sourceIf (lentVerdict s cs) cs source
+waitVerdict s cs source =
+    refusedOr (lentVerdict s cs) verdict.Refused (refusedUnless (ltb source (sources cs)) refusal.Number verdict.Accepted)
 
--- the wait report, or the refusal before any step
-abbrev pub waitIf : Verdict → State → List Channel → ℕ → List Step → WaitOutcome
-waitIf verdict.Accepted s cs source xs = waitReport source s 0 0 answer.NoStep (waitEvents s cs source xs)
-waitIf (verdict.Refused r) s cs source xs = waitOutcome (waited.Refused r) s
+-- the wait report for a source: refused before any step with 1, then 2, then 4; else the steps, each with its own refusals, until one acknowledges it
+unfoldable pub waitOf : State → List Channel → ℕ → List Step → Outcome Waited State
+waitOf s cs source xs =
+    let es = waitEvents s cs source xs in
+    refusedOr (waitVerdict s cs source) (λ reason. outcome (waited.Refused reason) s) (outcome (waitAnswer source es) (stateAfter s es))
 
--- the wait report for a source
-unfoldable pub waitOf : State → List Channel → ℕ → List Step → WaitOutcome
-waitOf s cs source xs = waitIf (waitVerdict s cs source) s cs source xs
+-- its events, a refused last one included; none where it is refused before any step
+abbrev pub waitHistory : State → List Channel → ℕ → List Step → List Event
+waitHistory s cs source xs = refusedOr (waitVerdict s cs source) (λ reason. []) (waitEvents s cs source xs)

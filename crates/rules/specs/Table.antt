@@ -13,7 +13,7 @@ pub record Row : Type 0 where
   pub value : ℕ
 
 abbrev pub row : ℕ → ℕ → ℕ → Row
-row e k v = record { existing = e; reset = k; value = v }
+row existing reset value = record { existing = existing; reset = reset; value = value }
 
 -- all eight bits, kept at reset (house reading)
 abbrev pub plain : Row

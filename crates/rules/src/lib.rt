@@ -83,22 +83,14 @@ pub struct Channels {
     pub count: usize,
 }
 
-// The bytes of a record's registers.
-pub struct Places {
-    pub idcr: usize,
-    pub ivr: usize,
-    pub dcpr: usize,
-    pub dapr: usize,
-    pub io: usize,
-}
-
 // Where a register number goes: a byte of the image with the bits that exist there, or nowhere.
 pub enum Place {
     At(usize, u8),
     Unmodelled,
 }
 
-// The reasons for a refusal, numbers 1 to 7 of document 01 in order.
+// The reasons for a refusal, numbers 1 to 7 of document 01 in order: the image's length, the list, a register or viewed page, a pin, direction, record or
+// source number, memory, a pointer over R223, an unknown kind.
 pub enum Refusal {
     Length,
     List,
@@ -162,7 +154,7 @@ pub struct Losses {
     pub eipr: u8,
 }
 
-// What a step answers. A trigger answers for the maskable bit, then for TLIP. `NoStep` is the last answer of an empty run.
+// What a step answers. A trigger answers for the maskable bit, then for TLIP; `Nothing` is an arbitration's "none". `NoStep` is the last answer of an empty run.
 pub enum Answer {
     NoStep,
     Byte(u8),
@@ -174,6 +166,14 @@ pub enum Answer {
     Transferred { source: u8, ended: bool },
     Returned,
     Reset,
+    Refused(Refusal),
+}
+
+// What is asked of an answer: whether it is a refusal, a trigger with what it did to the maskable bit, or an acknowledged source.
+pub enum AnswerKind {
+    Plain,
+    Triggered(Effect),
+    Acknowledged(u8),
     Refused(Refusal),
 }
 
@@ -212,9 +212,10 @@ pub enum Basis {
     Level,
 }
 
-// What is answered of demand 3's bound, and of that over reads and writes: refused with 1, 2 or 4; or the first of the premises that fails, one on the steps
-// with the index of the step (`Changed` of a write, in the second alone); or the unmasked sources outranking ours that are pending at the start (H), how often
-// the steps trigger such a source or raise its pending bit (E), and the bound H + E + 1.
+// What is answered of a bound: a refusal with 1, then 2, then 4; else the first premise on the start that fails; else one on the steps, with the index of the step;
+// else the bound. Demand 3's answers the first step of another kind, and only where there is none the first arbitration with interrupts disabled; that over reads
+// and writes the first step that breaks any premise, and it alone answers `Changed`. `Within` has the unmasked sources outranking ours that are pending at the
+// start (H), how often the steps trigger such a source or, in the second, raise its pending bit (E), and the bound H + E + 1.
 pub enum Bounded {
     Refused(Refusal),
     Nested,
@@ -242,7 +243,7 @@ pub enum Bounded {
 }
 
 // An answer as numbers, as C has it: its kind, document 01's number where something is refused (else 0), the steps done or the index of a step, and the
-// values of its kind. specs/Answers says which.
+// values of its kind. specs/Encodings says which.
 #[repr(C)]
 pub struct Flat {
     pub kind: u64,

@@ -11,9 +11,9 @@ use Rattle.bits.specs.Bits.{bit}
 use Rattle.rules.specs.declared.Channel.{Channel}
 use Rattle.rules.specs.declared.Channels.{Channels}
 use Rattle.rules.specs.Image.{Image, at, bitOf, has, EIPR, EIMR, EIPLR}
-use Rattle.rules.specs.Channels.{idcrByte, listOk, listOf}
-use Rattle.rules.specs.Sources.{sources, external, recordOf, IP, IM, pendingBit, pending, unmasked, dmaEnabled, externalLevel, level}
-use Rattle.rules.specs.Waiting.{pendingOf}
+use Rattle.rules.specs.Channels.{idcrByte, listOk, listOf, IP, IM}
+use Rattle.rules.specs.Sources.{sources, external, recordOf, pendingBit, pending, unmasked, dmaEnabled, externalLevel, level}
+use Rattle.rules.specs.Demand3.{pendingOf}
 use Rattle.rules.proofs.Channels as S
 use Rattle.rules.proofs.Counting.{pendingOf-le}
 use Rattle.channels.proofs.ItemLaws.{list-count, count-short}

@@ -11,15 +11,16 @@ use rules::EXTERNALS;
 use rules::IM;
 use rules::IP;
 ghost use mathlib.Core.Path.{_≡_};
-ghost use mathlib.Core.Bool.{true, cond, _&&_};
+ghost use mathlib.Core.Bool.{true};
 ghost use Prim.Native.Nat.{_<_};
 ghost use lib.ListN.{length};
-ghost use Rattle.rules.specs.Image.{imageLength, at, bitOf, has};
-ghost use Rattle.rules.specs.Channels.{recordAt, idcrByte, listOk, listOf};
-ghost use Rattle.rules.specs.Sources.{sources, external, recordOf, pending, unmasked, dmaEnabled, level};
+ghost use Rattle.rules.specs.Image.{imageLength, at};
+ghost use Rattle.rules.specs.Channels.{recordAt, idcrByte, listOk, listOf, Accepted};
+ghost use Rattle.rules.specs.Sources.{sources, pending, unmasked, dmaEnabled, level, AcceptedSource};
 ghost use Rattle.rules.specs.Runs.{oneIf};
-ghost use Rattle.rules.specs.Waiting.{outranks, rival, pendingOf};
+ghost use Rattle.rules.specs.Demand3.{outranks, rival};
 ghost use Rattle.rules.specs.Bounds.{anyDma};
+ghost use Rattle.sources.specs.Flags.{sourceBit, pendingRival, pendingRivals};
 
 // The IDCR of record k.
 fn idcr_of(image: &[u8], all: Channels, k: usize) -> u8
@@ -33,7 +34,7 @@ fn idcr_of(image: &[u8], all: Channels, k: usize) -> u8
 // A bit that each source has: of an external channel bit `source` of a register, of a record bit k of its IDCR.
 fn source_bit(image: &[u8], all: Channels, source: usize, register: usize, k: u8) -> bool
     requires { ⌜ (length (now image) ≡ imageLength) × (listOk (listOf all) ≡ true) × (source < sources (listOf all)) × (register < imageLength) × (k < 8) ⌝ }
-    ensures { λ b. ⌜ b ≡ cond (external source) (has (now (image .entry)) (bitOf register source)) (has (now (image .entry)) (bitOf (idcrByte (recordOf (listOf all) source)) k)) ⌝ }
+    ensures { λ b. ⌜ b ≡ sourceBit (now (image .entry)) (listOf all) source register k ⌝ }
 {
     if source < EXTERNALS {
         return has_bit(image[register], source as u8);
@@ -43,7 +44,7 @@ fn source_bit(image: &[u8], all: Channels, source: usize, register: usize, k: u8
 
 // Whether a source is pending: its EIPR or IP bit is 1.
 pub fn is_pending(image: &[u8], all: Channels, source: usize) -> bool
-    requires { ⌜ (length (now image) ≡ imageLength) × (listOk (listOf all) ≡ true) × (source < sources (listOf all)) ⌝ }
+    requires { ⌜ AcceptedSource (now image) (listOf all) source ⌝ }
     ensures { λ p. ⌜ p ≡ pending (now (image .entry)) (listOf all) source ⌝ }
 {
     source_bit(image, all, source, EIPR, IP)
@@ -51,7 +52,7 @@ pub fn is_pending(image: &[u8], all: Channels, source: usize) -> bool
 
 // Whether it is unmasked: its EIMR bit, or IM, is 1.
 pub fn is_unmasked(image: &[u8], all: Channels, source: usize) -> bool
-    requires { ⌜ (length (now image) ≡ imageLength) × (listOk (listOf all) ≡ true) × (source < sources (listOf all)) ⌝ }
+    requires { ⌜ AcceptedSource (now image) (listOf all) source ⌝ }
     ensures { λ u. ⌜ u ≡ unmasked (now (image .entry)) (listOf all) source ⌝ }
 {
     source_bit(image, all, source, EIMR, IM)
@@ -59,7 +60,7 @@ pub fn is_unmasked(image: &[u8], all: Channels, source: usize) -> bool
 
 // Whether it has DMA enabled: DM is 1; an external channel has none.
 pub fn is_dma_enabled(image: &[u8], all: Channels, source: usize) -> bool
-    requires { ⌜ (length (now image) ≡ imageLength) × (listOk (listOf all) ≡ true) × (source < sources (listOf all)) ⌝ }
+    requires { ⌜ AcceptedSource (now image) (listOf all) source ⌝ }
     ensures { λ d. ⌜ d ≡ dmaEnabled (now (image .entry)) (listOf all) source ⌝ }
 {
     if source < EXTERNALS {
@@ -70,7 +71,7 @@ pub fn is_dma_enabled(image: &[u8], all: Channels, source: usize) -> bool
 
 // Its level, pending or not: an external channel's by EIPLR, a record's PRL.
 pub fn level_of(image: &[u8], all: Channels, source: usize) -> u8
-    requires { ⌜ (length (now image) ≡ imageLength) × (listOk (listOf all) ≡ true) × (source < sources (listOf all)) ⌝ }
+    requires { ⌜ AcceptedSource (now image) (listOf all) source ⌝ }
     ensures { λ l. ⌜ l ≡ level (now (image .entry)) (listOf all) source ⌝ }
 {
     if source < EXTERNALS {
@@ -100,7 +101,7 @@ pub fn is_rival(image: &[u8], all: Channels, ours: usize, k: usize) -> bool
 // 1 where source k is such a one and pending, else 0.
 fn pending_rival(image: &[u8], all: Channels, ours: usize, k: usize) -> usize
     requires { ⌜ (length (now image) ≡ imageLength) × (listOk (listOf all) ≡ true) × (ours < sources (listOf all)) × (k < sources (listOf all)) ⌝ }
-    ensures { λ n. ⌜ n ≡ oneIf (pending (now (image .entry)) (listOf all) k && rival (now (image .entry)) (listOf all) ours k) ⌝ }
+    ensures { λ n. ⌜ n ≡ oneIf (pendingRival (now (image .entry)) (listOf all) ours k) ⌝ }
 {
     if is_pending(image, all, k) {
         if is_rival(image, all, ours, k) {
@@ -112,8 +113,8 @@ fn pending_rival(image: &[u8], all: Channels, ours: usize, k: usize) -> usize
 
 // H of demand 3: how many unmasked sources outranking ours are pending.
 pub fn pending_rivals(image: &[u8], all: Channels, ours: usize) -> usize
-    requires { ⌜ (length (now image) ≡ imageLength) × (listOk (listOf all) ≡ true) × (ours < sources (listOf all)) ⌝ }
-    ensures { λ n. ⌜ n ≡ pendingOf (now (image .entry)) (listOf all) (rival (now (image .entry)) (listOf all) ours) ⌝ }
+    requires { ⌜ AcceptedSource (now image) (listOf all) ours ⌝ }
+    ensures { λ n. ⌜ n ≡ pendingRivals (now (image .entry)) (listOf all) ours ⌝ }
 {
     let mut n: usize = 0;
     let mut k: usize = 0;
@@ -126,7 +127,7 @@ pub fn pending_rivals(image: &[u8], all: Channels, ours: usize) -> usize
 
 // Whether some record has DMA enabled.
 pub fn any_dma(image: &[u8], all: Channels) -> bool
-    requires { ⌜ (length (now image) ≡ imageLength) × (listOk (listOf all) ≡ true) ⌝ }
+    requires { ⌜ Accepted (now image) (listOf all) ⌝ }
     ensures { λ d. ⌜ d ≡ anyDma (now (image .entry)) (listOf all) ⌝ }
 {
     let mut k: usize = 0;

@@ -8,8 +8,8 @@ use Rattle.rules.specs.declared.Ran.{Ran}
 use Rattle.rules.specs.declared.Waited.{Waited}
 use Rattle.rules.specs.declared.Bounded.{Bounded}
 use Rattle.rules.specs.Image.{Image}
-use Rattle.rules.specs.Channels.{listOf, listIn}
-use Rattle.rules.specs.Steps.{decodeOf}
+use Rattle.rules.specs.Channels.{listOf}
+use Rattle.rules.specs.Encodings.{listIn, decodeOf}
 use Rattle.rules.specs.Promises.{DoesWord, Runs, RunClaims, Waits, WaitClaims, Bounds, BoundClaims, HandlerBounds, HandlerBoundClaims}
 use Rattle.lent.specs.Copies.{copyOf}
 use Rattle.st9.proofs.PromiseLaws.{lent-does, lent-runs, lent-waits, lent-bounds, lent-handler-bounds}

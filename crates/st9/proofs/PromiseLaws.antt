@@ -8,6 +8,7 @@ use lib.Dec.{eqb}
 use lib.ListN.{length}
 use Rattle.rules.specs.declared.Channel.{Channel}
 use Rattle.rules.specs.declared.Step.{Step}
+use Rattle.rules.specs.declared.Step.the-variants as step
 use Rattle.rules.specs.declared.Answer.{Answer}
 use Rattle.rules.specs.declared.Ran.{Ran}
 use Rattle.rules.specs.declared.Waited.{Waited}
@@ -15,18 +16,18 @@ use Rattle.rules.specs.declared.Bounded.{Bounded}
 use Rattle.rules.specs.declared.Verdict.{Verdict}
 use Rattle.rules.specs.declared.Verdict.the-variants as verdict
 use Rattle.rules.specs.declared.Refusal.the-variants as refusal
-use Rattle.rules.specs.Image.{Image, State, state, imageLength}
+use Rattle.rules.specs.Image.{Image, imageLength}
 use Rattle.rules.specs.Channels.{mostRecords, listOf}
-use Rattle.rules.specs.Outcomes.{Outcome}
-use Rattle.rules.specs.Steps.{lentVerdict, stepOf, stepsOf}
-use Rattle.rules.specs.Runs.{RunOutcome, runOf, WaitOutcome, waitVerdict, waitOf}
+use Rattle.rules.specs.Outcomes.{State, state, Outcome}
+use Rattle.rules.specs.Steps.{lentVerdict, stepOf}
+use Rattle.rules.specs.Runs.{runOf, waitVerdict, waitOf}
 use Rattle.rules.specs.Bounds.{boundOf, BoundSays}
 use Rattle.rules.specs.HandlerBounds.{handlerBoundOf, HandlerBoundSays}
-use Rattle.rules.specs.Answers.{told, toldRun, toldWait, toldBound}
-use Rattle.rules.specs.Promises.{Does, Runs, RunClaims, Waits, WaitClaims, Bounds, BoundClaims, HandlerBounds, HandlerBoundClaims}
+use Rattle.rules.specs.Encodings.{stepsOf, told, toldRun, toldWait, toldBound}
+use Rattle.rules.specs.Promises.{Does, Reads, Runs, RunClaims, Waits, WaitClaims, Bounds, BoundClaims, HandlerBounds, HandlerBoundClaims}
 use Rattle.rules.proofs.ListLaws.{list-long}
 use Rattle.rules.proofs.Told.{told-wait-injective, told-bound-injective}
-use Rattle.rules.proofs.RunsAndWaits.{run-demand3, run-handlers, wait-demand3, wait-handlers}
+use Rattle.rules.proofs.RunsAndWaits.{runs-claimed, waits-claimed}
 use Rattle.rules.proofs.BoundLaws.{bound-says}
 use Rattle.rules.proofs.HandlerBoundLaws.{handler-bound-says}
 use Rattle.lent.specs.Copies.{copyOf}
@@ -72,25 +73,31 @@ module _ (m : Image) (cs : List Channel) where
   -- one step
   pub lent-does : (x : Step) (a : Answer) (m' : Image) → Does m (listOf (copyOf cs)) x a m' → Does m cs x a m'
   lent-does x a m' =
-      subst (λ (o : Outcome). (told a ≡ told (o .answer)) × (m' ≡ o .state .image))
+      subst (λ (o : Outcome Answer State). (told a ≡ told (o .answer)) × (m' ≡ o .left .image))
       (through (λ (l : List Channel). stepOf (state m) l x) (λ bs ds h k. step-alike (state m) bs ds h k x) cs)
+
+  -- a read, whose promise has the answer alone
+  pub lent-reads : (r : ℕ) (a : Answer) → Reads m (listOf (copyOf cs)) r a → Reads m cs r a
+  lent-reads r a =
+      subst (λ (o : Outcome Answer State). told a ≡ told (o .answer))
+      (through (λ (l : List Channel). stepOf (state m) l (step.Read r)) (λ bs ds h k. step-alike (state m) bs ds h k (step.Read r)) cs)
 
   -- a run, with what is claimed of it
   pub lent-runs : (ws : List ℕ) (r : Ran) (m' : Image) → Runs m (listOf (copyOf cs)) ws r m' → RunClaims m cs ws r m'
   lent-runs ws r m' promise =
       let p : Runs m cs ws r m' =
-      subst (λ (o : RunOutcome). (toldRun r ≡ toldRun (o .answer)) × (m' ≡ o .state .image))
+      subst (λ (o : Outcome Ran State). (toldRun r ≡ toldRun (o .answer)) × (m' ≡ o .left .image))
       (through (λ (l : List Channel). runOf (state m) l (stepsOf ws)) (λ bs ds h k. run-alike (state m) bs ds h k (stepsOf ws)) cs) promise in
-      (p, rw (p .1) (run-demand3 m cs (stepsOf ws)), rw (p .1) (run-handlers m cs (stepsOf ws)))
+      (p, rw (p .1) (runs-claimed (state m) cs (stepsOf ws)))
 
   -- a wait report, likewise
   pub lent-waits : (source : ℕ) (ws : List ℕ) (w : Waited) (m' : Image) → Waits m (listOf (copyOf cs)) source ws w m' → WaitClaims m cs source ws w m'
   lent-waits source ws w m' promise =
       let p : Waits m cs source ws w m' =
-      subst (λ (o : WaitOutcome). (toldWait w ≡ toldWait (o .answer)) × (m' ≡ o .state .image))
+      subst (λ (o : Outcome Waited State). (toldWait w ≡ toldWait (o .answer)) × (m' ≡ o .left .image))
       (through (λ (l : List Channel). waitOf (state m) l source (stepsOf ws)) (λ bs ds h k. wait-alike (state m) bs ds h k source (stepsOf ws)) cs) promise in
       let same = told-wait-injective w (waitOf (state m) cs source (stepsOf ws) .answer) (p .0) in
-      (p, rw (same, p .1) (wait-demand3 m cs source (stepsOf ws)), rw (same, p .1) (wait-handlers m cs source (stepsOf ws)))
+      (p, rw (same, p .1) (waits-claimed (state m) cs source (stepsOf ws)))
 
   -- a bound, with what it says: of either claim
   module _ (boundBy : State → List Channel → ℕ → List Step → Bounded)
@@ -106,8 +113,8 @@ module _ (m : Image) (cs : List Channel) where
         (p, subst (Says (stepsOf ws) source) (sym (told-bound-injective b o p)) (says source (stepsOf ws)))
 
   pub lent-bounds : (source : ℕ) (ws : List ℕ) (b : Bounded) → Bounds m (listOf (copyOf cs)) source ws b → BoundClaims m cs source ws b
-  lent-bounds = bound-through boundOf (bound-alike (state m)) (λ xs source. BoundSays m cs source xs) (λ source xs. bound-says m cs source xs)
+  lent-bounds = bound-through boundOf (bound-alike (state m)) (λ xs source. BoundSays (state m) cs source xs) (λ source xs. bound-says m cs source xs)
 
   pub lent-handler-bounds : (source : ℕ) (ws : List ℕ) (b : Bounded) → HandlerBounds m (listOf (copyOf cs)) source ws b → HandlerBoundClaims m cs source ws b
   lent-handler-bounds =
-      bound-through handlerBoundOf (handler-bound-alike (state m)) (λ xs source. HandlerBoundSays m cs source xs) (λ source xs. handler-bound-says m cs source xs)
+      bound-through handlerBoundOf (handler-bound-alike (state m)) (λ xs source. HandlerBoundSays (state m) cs source xs) (λ source xs. handler-bound-says m cs source xs)

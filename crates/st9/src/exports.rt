@@ -7,15 +7,14 @@ use answers::verdict_number;
 use lent::unpacked;
 use rules::Flat;
 ghost use mathlib.Core.Path.{_≡_};
-ghost use Rattle.rules.specs.Channels.{listIn};
 ghost use Rattle.rules.specs.Registers.{viewVerdict};
-ghost use Rattle.rules.specs.Answers.{told, toldRun, toldWait, toldBound, toldVerdict};
-ghost use Rattle.rules.specs.Promises.{DoesWord, RunClaims, WaitClaims, BoundClaims, HandlerBoundClaims, Tells};
+ghost use Rattle.rules.specs.Encodings.{toldVerdict};
+ghost use Rattle.rules.specs.Promises.{TellsStep, TellsRun, TellsWait, TellsBound, TellsHandlerBound};
 
 // One step, given as a word.
 #[no_mangle]
 pub extern "C" fn st9_step(image: &mut [u8], channels: &[u8], word: u64) -> Flat
-    ensures { λ f. ⌜ Tells told (λ a. DoesWord (now (image .entry)) (listIn (now (channels .entry))) word a (now (image .exit))) f ⌝ }
+    ensures { λ f. ⌜ TellsStep (now (image .entry)) (now (channels .entry)) word f (now (image .exit)) ⌝ }
 {
     let all = unpacked(channels);
     of_step(machine::perform(image, all, word))
@@ -24,7 +23,7 @@ pub extern "C" fn st9_step(image: &mut [u8], channels: &[u8], word: u64) -> Flat
 // A run of steps given as words; and what demand 3 and the handlers' claim say of it.
 #[no_mangle]
 pub extern "C" fn st9_run(image: &mut [u8], channels: &[u8], words: &[u64]) -> Flat
-    ensures { λ f. ⌜ Tells toldRun (λ r. RunClaims (now (image .entry)) (listIn (now (channels .entry))) (now (words .entry)) r (now (image .exit))) f ⌝ }
+    ensures { λ f. ⌜ TellsRun (now (image .entry)) (now (channels .entry)) (now (words .entry)) f (now (image .exit)) ⌝ }
 {
     let all = unpacked(channels);
     of_run(machine::run(image, all, words))
@@ -33,7 +32,7 @@ pub extern "C" fn st9_run(image: &mut [u8], channels: &[u8], words: &[u64]) -> F
 // The wait report for a source over steps given as words; and what demand 3 and the handlers' claim say of it.
 #[no_mangle]
 pub extern "C" fn st9_wait(image: &mut [u8], channels: &[u8], source: u32, words: &[u64]) -> Flat
-    ensures { λ f. ⌜ Tells toldWait (λ w. WaitClaims (now (image .entry)) (listIn (now (channels .entry))) source (now (words .entry)) w (now (image .exit))) f ⌝ }
+    ensures { λ f. ⌜ TellsWait (now (image .entry)) (now (channels .entry)) source (now (words .entry)) f (now (image .exit)) ⌝ }
 {
     let all = unpacked(channels);
     of_wait(machine::wait(image, all, source, words))
@@ -42,7 +41,7 @@ pub extern "C" fn st9_wait(image: &mut [u8], channels: &[u8], source: u32, words
 // Demand 3's bound for a source over steps given as words; and what it says.
 #[no_mangle]
 pub extern "C" fn st9_bound(image: &[u8], channels: &[u8], source: u32, words: &[u64]) -> Flat
-    ensures { λ f. ⌜ Tells toldBound (λ b. BoundClaims (now (image .entry)) (listIn (now (channels .entry))) source (now (words .entry)) b) f ⌝ }
+    ensures { λ f. ⌜ TellsBound (now (image .entry)) (now (channels .entry)) source (now (words .entry)) f ⌝ }
 {
     let all = unpacked(channels);
     of_bound(machine::bound(image, all, source, words))
@@ -56,7 +55,7 @@ pub extern "C" fn st9_handler_bound(
     source: u32,
     words: &[u64],
 ) -> Flat
-    ensures { λ f. ⌜ Tells toldBound (λ b. HandlerBoundClaims (now (image .entry)) (listIn (now (channels .entry))) source (now (words .entry)) b) f ⌝ }
+    ensures { λ f. ⌜ TellsHandlerBound (now (image .entry)) (now (channels .entry)) source (now (words .entry)) f ⌝ }
 {
     let all = unpacked(channels);
     of_bound(machine::handler_bound(image, all, source, words))

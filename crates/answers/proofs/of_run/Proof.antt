@@ -13,16 +13,6 @@ returns-3 : tie.Need-returns-3
 returns-3 c = simp (c .with-steps .ensures, c .before .of-step .ensures, c .before .before .before .r3 .given .1)
 
 pub of-run-spec : {M : Type 1} → statement M
-of-run-spec =
-    tie.close
-    (tie.spec
-    (λ c. search needs)
-    (λ c κs. search needs)
-    (λ c. search needs)
-    (λ c κs. search needs)
-    (λ c. search needs)
-    (λ c κs. search needs)
-    (λ c κs. search needs)
-    returns
-    returns-2
-    returns-3)
+of-run-spec {M} =
+    let answered = tie.spec {M = M} (λ c. search needs) (λ c κs. search needs) (λ c. search needs) (λ c κs. search needs) (λ c. search needs) in
+    tie.close (answered (λ c κs. search needs) (λ c κs. search needs) returns returns-2 returns-3)

@@ -6,7 +6,7 @@ use borrow.Author.Needs.{needs}
 use denote.Ref.{now}
 use Rattle.rules.specs.Channels.{listOf}
 use Rattle.rules.specs.Sources.{sources}
-use Rattle.rules.specs.Arbitration.{granted, arbitration}
+use Rattle.rules.specs.Arbitration.{granted, arbitrateOf}
 use Rattle.channels.proofs.ItemLaws.{Taken}
 use Rattle.arbiter.proofs.SourceLaws.{source-taken, dma-winner, interrupt-winner}
 use Rattle.arbiter.proofs.arbitrate.Statement.{statement}
@@ -14,9 +14,9 @@ use Rattle.arbiter.proofs.arbitrate.Tie as tie
 
 -- past the mark and the top level, the winner decides
 gets :
-    (c : tie.After-winner-of) → arbitration (now (c .before .before .before .before .before .before .before .before .before .args .image)) (listOf (c .before .before .before .before .before .before .before .before .before .args .t2))
+    (c : tie.After-winner-of) → arbitrateOf (now (c .before .before .before .before .before .before .before .before .before .args .image)) (listOf (c .before .before .before .before .before .before .before .before .before .args .t2))
     ≡ granted (now (c .before .before .before .before .before .before .before .before .before .args .image)) (listOf (c .before .before .before .before .before .before .before .before .before .args .t2)) (c .winner-of .result)
-unfolding arbitration
+unfolding arbitrateOf
 gets c =
     let d = c .before .before in
     let e = d .before .before .before in
@@ -33,11 +33,11 @@ taken c =
     source-taken _ _ (s .good .1 .0) (s .pre .1) (there c .0) (there c .1)
 
 returns : tie.Need-returns
-unfolding arbitration
+unfolding arbitrateOf
 returns c = simp (sym (c .before .in-service .ensures) ∙ c .if1 .taken)
 
 returns-2 : tie.Need-returns-2
-unfolding arbitration
+unfolding arbitrateOf
 returns-2 c =
     let d = c .before .before .before .before in
     let e = d .before .before .before in
@@ -78,29 +78,8 @@ returns-5 c =
     simp (gets (d .before .before), d .source2 .given .1, c .before .before .acknowledge .ensures)
 
 pub arbitrate-spec : {M : Type 1} → statement M
-arbitrate-spec =
-    tie.close
-    (tie.spec
-    (λ c κs. search needs)
-    (λ c. search needs)
-    returns
-    (λ c κs. search needs)
-    (λ c κs. search needs)
-    (λ c. search needs)
-    returns-2
-    (λ c κs. search needs)
-    (λ c. search needs)
-    (λ c. search needs)
-    (λ c. search needs)
-    sub-c
-    (λ c. search needs)
-    element-copy-out-c
-    transfer-requires
-    (λ c. search needs)
-    acknowledge-requires
-    (λ c. search needs)
-    returns-3
-    (λ c. search needs)
-    returns-4
-    (λ c. search needs)
-    returns-5)
+arbitrate-spec {M} =
+    let answered = tie.spec {M = M} (λ c κs. search needs) (λ c. search needs) returns (λ c κs. search needs) (λ c κs. search needs) in
+    let answered = answered (λ c. search needs) returns-2 (λ c κs. search needs) (λ c. search needs) (λ c. search needs) (λ c. search needs) sub-c in
+    let answered = answered (λ c. search needs) element-copy-out-c transfer-requires (λ c. search needs) acknowledge-requires (λ c. search needs) in
+    tie.close (answered returns-3 (λ c. search needs) returns-4 (λ c. search needs) returns-5)

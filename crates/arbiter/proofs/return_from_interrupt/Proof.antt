@@ -17,14 +17,6 @@ returns-2 c =
     simp (sym (d .before .in-service .ensures) ∙ d .if1 .left, c .before .before .put-at .ensures, u .unnest .ensures)
 
 pub return-from-interrupt-spec : {M : Type 1} → statement M
-return-from-interrupt-spec =
-    tie.close
-    (tie.spec
-    (λ c κs. search needs)
-    (λ c. search needs)
-    (λ c. search needs)
-    returns
-    (λ c κs. search needs)
-    (λ c κs. search needs)
-    (λ c. search needs)
-    returns-2)
+return-from-interrupt-spec {M} =
+    let answered = tie.spec {M = M} (λ c κs. search needs) (λ c. search needs) (λ c. search needs) returns (λ c κs. search needs) in
+    tie.close (answered (λ c κs. search needs) (λ c. search needs) returns-2)

@@ -11,13 +11,6 @@ returns c =
     rw (c .has-bit4 .ensures, c .before .has-bit3 .ensures, d .has-bit2 .ensures, d .before .before .has-bit .ensures)
 
 pub top-level-spec : {M : Type 1} → statement M
-top-level-spec =
-    tie.close
-    (tie.spec
-    (λ c. search needs)
-    (λ c κs. search needs)
-    (λ c. search needs)
-    (λ c κs. search needs)
-    (λ c κs. search needs)
-    (λ c κs. search needs)
-    returns)
+top-level-spec {M} =
+    let answered = tie.spec {M = M} (λ c. search needs) (λ c κs. search needs) (λ c. search needs) (λ c κs. search needs) (λ c κs. search needs) in
+    tie.close (answered (λ c κs. search needs) returns)

@@ -1,7 +1,7 @@
 -- Each arm calls the function of its kind, whose contract is this one at that trigger; an unknown kind is refused.
 use borrow.Author.Needs.{needs}
 use Rattle.rules.specs.Channels.{listOf}
-use Rattle.rules.specs.Triggers.{triggerVerdict, fire, triggerOf}
+use Rattle.rules.specs.Triggers.{triggerVerdict, fired, triggerOf}
 use Rattle.arbiter.proofs.trigger.Statement.{statement}
 use Rattle.arbiter.proofs.trigger.Tie as tie
 
@@ -29,28 +29,11 @@ returns-4 c =
     simp (d .before .before .before .event3 .given .1, d .channel-request .ensures)
 
 returns-5 : tie.Need-returns-5
-unfolding triggerOf fire triggerVerdict
+unfolding triggerOf fired triggerVerdict
 returns-5 c = simp (c .enum-told2 .given .1)
 
 pub trigger-spec : {M : Type 1} → statement M
-trigger-spec =
-    tie.close
-    (tie.spec
-    (λ c. search needs)
-    (λ c κs. search needs)
-    (λ c. search needs)
-    (λ c κs. search needs)
-    (λ c. search needs)
-    (λ c κs. search needs)
-    (λ c. search needs)
-    (λ c κs. search needs)
-    (λ c. search needs)
-    (λ c. search needs)
-    returns
-    (λ c. search needs)
-    returns-2
-    (λ c. search needs)
-    returns-3
-    (λ c. search needs)
-    returns-4
-    returns-5)
+trigger-spec {M} =
+    let answered = tie.spec {M = M} (λ c. search needs) (λ c κs. search needs) (λ c. search needs) (λ c κs. search needs) (λ c. search needs) in
+    let answered = answered (λ c κs. search needs) (λ c. search needs) (λ c κs. search needs) (λ c. search needs) (λ c. search needs) returns in
+    tie.close (answered (λ c. search needs) returns-2 (λ c. search needs) returns-3 (λ c. search needs) returns-4 returns-5)

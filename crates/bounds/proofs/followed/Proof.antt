@@ -7,11 +7,12 @@ use lib.ListN.{length, drop}
 use borrow.Author.Needs.{needs}
 use denote.Ref.{now}
 use borrow.Author.Tests.{lt-ltb, le-ltb}
-use Rattle.rules.specs.Image.{imageLength, state}
+use Rattle.rules.specs.Image.{imageLength}
 use Rattle.rules.specs.Channels.{listOf}
-use Rattle.rules.specs.Steps.{stepsOf}
+use Rattle.rules.specs.Outcomes.{state}
 use Rattle.rules.specs.Runs.{history, oneIf}
-use Rattle.rules.specs.Waiting.{rival, H}
+use Rattle.rules.specs.Demand3.{rival, H}
+use Rattle.rules.specs.Encodings.{stepsOf}
 use Rattle.rules.proofs.Counting.{one-le}
 use Rattle.bounds.specs.Followed.{rivalTriggered, followedFrom}
 use Rattle.dispatch.proofs.NextSteps.{next-word, no-word}
@@ -35,35 +36,8 @@ counted-one c =
     let s = d .before .before .before .before .before .before .before .before .before .before in
     omega (arith, c .rival-trigger .ensures, one-le (rivalTriggered (now (s .args .image)) (listOf (s .args .all)) (s .args .ours) (d .before .before .before .decode .result) (d .act .result)))
 
-copy-of-requires : tie.Need-copy-of-requires Inv-loop μ-loop
-copy-of-requires c κs = search needs
-
 loop-holds : tie.Need-loop-holds Inv-loop μ-loop
 loop-holds c = (omega arith, omega arith, search needs, rw (c .copy-of .ensures))
-
-mul-decode : tie.Need-mul-decode Inv-loop μ-loop
-mul-decode c = search needs
-
-shared-slice-read-decode : tie.Need-shared-slice-read-decode Inv-loop μ-loop
-shared-slice-read-decode c = search needs
-
-decode-requires : tie.Need-decode-requires Inv-loop μ-loop
-decode-requires c κs = search needs
-
-array-read-has-bit : tie.Need-array-read-has-bit Inv-loop μ-loop
-array-read-has-bit c = search needs
-
-has-bit-requires : tie.Need-has-bit-requires Inv-loop μ-loop
-has-bit-requires c κs = search needs
-
-slice-aggregate-act : tie.Need-slice-aggregate-act Inv-loop μ-loop
-slice-aggregate-act c = search needs
-
-act-requires : tie.Need-act-requires Inv-loop μ-loop
-act-requires c κs = search needs
-
-other-step-requires : tie.Need-other-step-requires Inv-loop μ-loop
-other-step-requires c κs = search needs
 
 returns : tie.Need-returns Inv-loop μ-loop
 returns c =
@@ -77,20 +51,8 @@ returns c =
     (next-word _ _ (i .2) (s .pre .1) (d .before .before .before .before .before .loop-test .taken) (d .before .before .before .decode .ensures) (d .act .ensures))
     _ (sym (c .before .other-step .ensures) ∙ c .if1 .taken))
 
-first-disabled-requires : tie.Need-first-disabled-requires Inv-loop μ-loop
-first-disabled-requires c κs = search needs
-
-rival-trigger-requires : tie.Need-rival-trigger-requires Inv-loop μ-loop
-rival-trigger-requires c κs = search needs
-
 add-triggers : tie.Need-add-triggers Inv-loop μ-loop
 add-triggers c = omega (arith, counted-one c)
-
-add-done : tie.Need-add-done Inv-loop μ-loop
-add-done c = search needs
-
-loop-less : tie.Need-loop-less Inv-loop μ-loop
-loop-less c = search needs
 
 loop-again : tie.Need-loop-again Inv-loop μ-loop
 loop-again c =
@@ -125,28 +87,8 @@ returns-3 c =
     ∙ l .loop .inv .3 ∙ followed-end _ _ _ _ _ _ _ _ (no-word _ _ (c .before .before .loop-test .left)) ∙ rw (le-ltb _ _ (c .before .if2 .left), c .within .ensures))
 
 pub followed-spec : {M : Type 1} → statement M
-followed-spec =
-    tie.close
-    (tie.spec
-    Inv-loop
-    μ-loop
-    copy-of-requires
-    loop-holds
-    mul-decode
-    shared-slice-read-decode
-    decode-requires
-    array-read-has-bit
-    has-bit-requires
-    slice-aggregate-act
-    act-requires
-    other-step-requires
-    returns
-    first-disabled-requires
-    rival-trigger-requires
-    add-triggers
-    add-done
-    loop-less
-    loop-again
-    returns-2
-    within-requires
-    returns-3)
+followed-spec {M} =
+    let answered = tie.spec {M = M} Inv-loop μ-loop (λ c κs. search needs) loop-holds (λ c. search needs) (λ c. search needs) in
+    let answered = answered (λ c κs. search needs) (λ c. search needs) (λ c κs. search needs) (λ c. search needs) (λ c κs. search needs) in
+    let answered = answered (λ c κs. search needs) returns (λ c κs. search needs) (λ c κs. search needs) add-triggers (λ c. search needs) in
+    tie.close (answered (λ c. search needs) loop-again returns-2 within-requires returns-3)

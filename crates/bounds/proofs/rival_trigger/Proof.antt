@@ -6,7 +6,7 @@ use denote.Ref.{now}
 use borrow.Author.Tests.{lt-ltb, le-ltb}
 use Rattle.rules.specs.Channels.{listOf}
 use Rattle.rules.specs.Sources.{sources}
-use Rattle.rules.specs.Waiting.{rival}
+use Rattle.rules.specs.Demand3.{rival}
 use Rattle.channels.proofs.ItemLaws.{count-short}
 use Rattle.sources.proofs.SourceReads.{source-count}
 use Rattle.bounds.specs.Followed.{rivalTriggered}

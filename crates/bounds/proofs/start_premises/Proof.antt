@@ -5,7 +5,7 @@ use borrow.Author.Needs.{needs}
 use denote.Ref.{now}
 use Rattle.rules.specs.Image.{has, IAM}
 use Rattle.rules.specs.Channels.{listOf}
-use Rattle.rules.specs.Bounds.{anyDma, topLevelEnabled, calmElse}
+use Rattle.rules.specs.Bounds.{anyDma, topLevelEnabled, calmPremises}
 use Rattle.bounds.proofs.start_premises.Statement.{statement}
 use Rattle.bounds.proofs.start_premises.Tie as tie
 
@@ -23,28 +23,28 @@ top-enabled : (c : tie.After-has-bit3) → let a = c .before .before .before .be
 top-enabled c = ap₂ (λ (x y : Bool). x || y) (c .before .has-bit2 .ensures) (c .has-bit3 .ensures)
 
 returns : tie.Need-returns
-unfolding calmElse
+unfolding calmPremises
 returns c b = rw (sym (c .before .has-bit .ensures) ∙ c .if1 .taken)
 
 returns-2 : tie.Need-returns-2
-unfolding calmElse
+unfolding calmPremises
 returns-2 c b = rw (concurrent (c .before .before), sym (c .before .any-dma .ensures) ∙ c .if2 .taken)
 
 returns-3 : tie.Need-returns-3
-unfolding calmElse
+unfolding calmPremises
 returns-3 c b =
     let d = c .before .before .before .before in
     rw (concurrent (d .before .before), no-dma d, sym (top-enabled (c .before)) ∙ c .if3 .taken)
 
 returns-4 : tie.Need-returns-4
-unfolding calmElse
+unfolding calmPremises
 returns-4 c b =
     let t = c .before .before in
     let d = t .before .before .before .before in
     rw (concurrent (d .before .before), no-dma d, sym (top-enabled (t .before)) ∙ t .if3 .left, sym (c .before .in-service .ensures) ∙ c .if4 .taken)
 
 returns-5 : tie.Need-returns-5
-unfolding calmElse
+unfolding calmPremises
 returns-5 c b =
     let m = c .before in
     let t = m .before .before in
@@ -52,19 +52,7 @@ returns-5 c b =
     rw (concurrent (d .before .before), no-dma d, sym (top-enabled (t .before)) ∙ t .if3 .left, sym (m .before .in-service .ensures) ∙ m .if4 .left, c .source-premises .ensures b)
 
 pub start-premises-spec : {M : Type 1} → statement M
-start-premises-spec =
-    tie.close
-    (tie.spec
-    (λ c. search needs)
-    (λ c κs. search needs)
-    returns
-    (λ c κs. search needs)
-    returns-2
-    (λ c. search needs)
-    (λ c κs. search needs)
-    (λ c κs. search needs)
-    returns-3
-    (λ c κs. search needs)
-    returns-4
-    (λ c κs. search needs)
-    returns-5)
+start-premises-spec {M} =
+    let answered = tie.spec {M = M} (λ c. search needs) (λ c κs. search needs) returns (λ c κs. search needs) returns-2 (λ c. search needs) in
+    let answered = answered (λ c κs. search needs) (λ c κs. search needs) returns-3 (λ c κs. search needs) returns-4 (λ c κs. search needs) in
+    tie.close (answered returns-5)

@@ -3,7 +3,7 @@ use Prim.Native.Nat.{_≤_}
 use native.Mathlib.Omega.{arith}
 use denote.Ref.{now}
 use Rattle.rules.specs.Channels.{listOf}
-use Rattle.rules.specs.Waiting.{rival}
+use Rattle.rules.specs.Demand3.{rival}
 use Rattle.sources.proofs.SourceReads.{few-pending}
 use borrow.Author.Needs.{needs}
 use Rattle.bounds.proofs.within.Statement.{statement}

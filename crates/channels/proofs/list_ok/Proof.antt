@@ -27,9 +27,6 @@ returns c =
     let all = c .before .args .t1 in
     sym (listOf-long all (twelve all _ (c .before .good .0)) (omega (arith, c .if1 .taken)))
 
-none-seen-requires : tie.Need-none-seen-requires Inv-loop μ-loop
-none-seen-requires c κs = search needs
-
 loop-holds : tie.Need-loop-holds Inv-loop μ-loop
 loop-holds c =
     let d = c .before .before in
@@ -41,15 +38,6 @@ loop-holds c =
       full,
       left-all (listOf all) (omega (arith, listOf-length all full short)) ∙ ap (λ (s : List ℕ). leftOk s (listOf all)) (sym (c .none-seen .ensures)),
     )
-
-mul-c : tie.Need-mul-c Inv-loop μ-loop
-mul-c c = search needs
-
-element-copy-out-c : tie.Need-element-copy-out-c Inv-loop μ-loop
-element-copy-out-c c = search needs
-
-record-ok-requires : tie.Need-record-ok-requires Inv-loop μ-loop
-record-ok-requires c κs = search needs
 
 returns-2 : tie.Need-returns-2 Inv-loop μ-loop
 returns-2 c =
@@ -69,12 +57,6 @@ returns-3 c =
     ∙ left-turn _ (d .loop .inv .2) (d .loop .inv .1) _ _ _ true false (r .before .before .loop-test .taken)
     (sym (not-false _ (c .before .before .before .if2 .left)) ∙ r .record-ok .ensures)
     (sym (not-true _ (c .if3 .taken)) ∙ c .before .see-record .ensures .0, c .before .see-record .ensures .1))
-
-add-k : tie.Need-add-k Inv-loop μ-loop
-add-k c = search needs
-
-loop-less : tie.Need-loop-less Inv-loop μ-loop
-loop-less c = search needs
 
 loop-again : tie.Need-loop-again Inv-loop μ-loop
 loop-again c =
@@ -97,21 +79,7 @@ returns-4 c =
     sym (d .loop .inv .3 ∙ ap (λ (k : ℕ). leftOk (d .loop .seen) (rest all k)) e ∙ left-none all (d .loop .inv .2) (d .loop .inv .1) (d .loop .seen))
 
 pub list-ok-spec : {M : Type 1} → statement M
-list-ok-spec =
-    tie.close
-    (tie.spec
-    Inv-loop
-    μ-loop
-    returns
-    none-seen-requires
-    loop-holds
-    mul-c
-    element-copy-out-c
-    record-ok-requires
-    returns-2
-    see-record-requires
-    returns-3
-    add-k
-    loop-less
-    loop-again
-    returns-4)
+list-ok-spec {M} =
+    let answered = tie.spec {M = M} Inv-loop μ-loop returns (λ c κs. search needs) loop-holds (λ c. search needs) (λ c. search needs) in
+    let answered = answered (λ c κs. search needs) returns-2 see-record-requires returns-3 (λ c. search needs) (λ c. search needs) loop-again in
+    tie.close (answered returns-4)

@@ -10,11 +10,4 @@ returns c = (rw (c .has-bit .ensures), rw (c .before .put-bit .ensures))
 
 pub see-spec : {M : Type 1} → statement M
 see-spec =
-    tie.close
-    (tie.spec
-    (λ c. search needs)
-    (λ c. search needs)
-    (λ c κs. search needs)
-    (λ c. search needs)
-    (λ c κs. search needs)
-    returns)
+    tie.close (tie.spec (λ c. search needs) (λ c. search needs) (λ c κs. search needs) (λ c. search needs) (λ c κs. search needs) returns)

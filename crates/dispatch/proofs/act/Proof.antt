@@ -1,16 +1,16 @@
 -- Each arm is the definition's.
 use mathlib.Core.Path.{_≡_, ap}
 use borrow.Author.Needs.{needs}
-use Rattle.rules.specs.Image.{state}
-use Rattle.rules.specs.Outcomes.{Change, outcome}
-use Rattle.rules.specs.Arbitration.{arbitrateOf}
+use Rattle.rules.specs.declared.Answer.{Answer}
+use Rattle.rules.specs.Image.{Image}
+use Rattle.rules.specs.Outcomes.{state, Outcome, outcome}
 use Rattle.rules.specs.Steps.{actOf}
 use Rattle.dispatch.proofs.act.Statement.{statement}
 use Rattle.dispatch.proofs.act.Tie as tie
 
 -- what is answered and left of the image is the step's outcome
-made : {c d : Change} → c ≡ d → outcome (c .answer) (state (c .image)) ≡ outcome (d .answer) (state (d .image))
-made = ap (λ (c : Change). outcome (c .answer) (state (c .image)))
+made : {c d : Outcome Answer Image} → c ≡ d → outcome (c .answer) (state (c .left)) ≡ outcome (d .answer) (state (d .left))
+made = ap (λ (c : Outcome Answer Image). outcome (c .answer) (state (c .left)))
 
 returns : tie.Need-returns
 unfolding actOf
@@ -25,7 +25,7 @@ unfolding actOf
 returns-3 c = rw (c .before .before .before .before .before .step3 .given .1) (made (c .before .before .trigger .ensures))
 
 returns-4 : tie.Need-returns-4
-unfolding actOf arbitrateOf
+unfolding actOf
 returns-4 c = rw (c .before .before .before .before .enum-told .given .1) (made (c .before .before .arbitrate .ensures))
 
 returns-5 : tie.Need-returns-5
@@ -41,32 +41,9 @@ unfolding actOf
 returns-7 c = rw (c .enum-told4 .given .1)
 
 pub act-spec : {M : Type 1} → statement M
-act-spec =
-    tie.close
-    (tie.spec
-    (λ c. search needs)
-    (λ c κs. search needs)
-    (λ c. search needs)
-    (λ c κs. search needs)
-    (λ c. search needs)
-    (λ c κs. search needs)
-    (λ c. search needs)
-    (λ c κs. search needs)
-    (λ c. search needs)
-    (λ c κs. search needs)
-    (λ c. search needs)
-    (λ c κs. search needs)
-    (λ c. search needs)
-    (λ c. search needs)
-    returns
-    (λ c. search needs)
-    returns-2
-    (λ c. search needs)
-    returns-3
-    (λ c. search needs)
-    returns-4
-    (λ c. search needs)
-    returns-5
-    (λ c. search needs)
-    returns-6
-    returns-7)
+act-spec {M} =
+    let answered = tie.spec {M = M} (λ c. search needs) (λ c κs. search needs) (λ c. search needs) (λ c κs. search needs) (λ c. search needs) in
+    let answered = answered (λ c κs. search needs) (λ c. search needs) (λ c κs. search needs) (λ c. search needs) (λ c κs. search needs) in
+    let answered = answered (λ c. search needs) (λ c κs. search needs) (λ c. search needs) (λ c. search needs) returns (λ c. search needs) in
+    let answered = answered returns-2 (λ c. search needs) returns-3 (λ c. search needs) returns-4 (λ c. search needs) returns-5 (λ c. search needs) in
+    tie.close (answered returns-6 returns-7)

@@ -13,14 +13,6 @@ returns-3 c =
     rw (d .before .before .before .if1 .left, sym (d .before .before .verdict-of .ensures) ∙ d .enum-told .given .1, sym (c .before .may-stand .ensures) ∙ c .if2 .left)
 
 pub broken-call-spec : {M : Type 1} → statement M
-broken-call-spec =
-    tie.close
-    (tie.spec
-    returns
-    (λ c κs. search needs)
-    (λ c. search needs)
-    (λ c κs. search needs)
-    (λ c. search needs)
-    (λ c. search needs)
-    returns-3
-    (λ c. search needs))
+broken-call-spec {M} =
+    let answered = tie.spec {M = M} returns (λ c κs. search needs) (λ c. search needs) (λ c κs. search needs) (λ c. search needs) in
+    tie.close (answered (λ c. search needs) returns-3 (λ c. search needs))

@@ -23,22 +23,8 @@ returns-3 c =
     (ap₂ (λ (x y : Bool). x && not y) (d .before .before .before .before .is-arbitration .ensures) (d .before .before .has-bit .ensures)) (c .before .broken-call .ensures) (c .rival-trigger .ensures)
 
 pub follow-spec : {M : Type 1} → statement M
-follow-spec =
-    tie.close
-    (tie.spec
-    (λ c κs. search needs)
-    (λ c κs. search needs)
-    (λ c. search needs)
-    returns
-    (λ c κs. search needs)
-    (λ c κs. search needs)
-    (λ c. search needs)
-    (λ c. search needs)
-    (λ c κs. search needs)
-    (λ c. search needs)
-    (λ c κs. search needs)
-    (λ c κs. search needs)
-    (λ c κs. search needs)
-    (λ c κs. search needs)
-    (λ c. search needs)
-    returns-3)
+follow-spec {M} =
+    let answered = tie.spec {M = M} (λ c κs. search needs) (λ c κs. search needs) (λ c. search needs) returns (λ c κs. search needs) in
+    let answered = answered (λ c κs. search needs) (λ c. search needs) (λ c. search needs) (λ c κs. search needs) (λ c. search needs) in
+    let answered = answered (λ c κs. search needs) (λ c κs. search needs) (λ c κs. search needs) (λ c κs. search needs) (λ c. search needs) in
+    tie.close (answered returns-3)

@@ -26,19 +26,7 @@ returns-2 c =
     follows-refused _ _ _ _ _ _ _ _ (d .act .ensures) (s .pre .4) (ap refuses (sym (c .before .before .verdict-of .ensures) ∙ c .enum-told2 .given .1))
 
 pub follow-write-spec : {M : Type 1} → statement M
-follow-write-spec =
-    tie.close
-    (tie.spec
-    (λ c κs. search needs)
-    (λ c κs. search needs)
-    (λ c κs. search needs)
-    (λ c. search needs)
-    (λ c. search needs)
-    (λ c κs. search needs)
-    (λ c. search needs)
-    raised-rivals-requires
-    (λ c. search needs)
-    (λ c. search needs)
-    returns
-    (λ c. search needs)
-    returns-2)
+follow-write-spec {M} =
+    let answered = tie.spec {M = M} (λ c κs. search needs) (λ c κs. search needs) (λ c κs. search needs) (λ c. search needs) (λ c. search needs) in
+    let answered = answered (λ c κs. search needs) (λ c. search needs) raised-rivals-requires (λ c. search needs) (λ c. search needs) returns in
+    tie.close (answered (λ c. search needs) returns-2)

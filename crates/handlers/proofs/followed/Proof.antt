@@ -5,12 +5,13 @@ use Prim.Native.Nat.{_*_, _-_, _≤_}
 use native.Mathlib.Omega.{arith}
 use lib.ListN.{length, drop}
 use borrow.Author.Needs.{needs}
-use Rattle.rules.specs.Image.{imageLength, state}
+use Rattle.rules.specs.Image.{imageLength}
 use Rattle.rules.specs.Channels.{listOf}
-use Rattle.rules.specs.Steps.{stepsOf}
+use Rattle.rules.specs.Outcomes.{state}
 use Rattle.rules.specs.Runs.{history}
-use Rattle.rules.specs.Waiting.{rival, H}
+use Rattle.rules.specs.Demand3.{rival, H}
 use Rattle.rules.specs.Handlers.{upTo}
+use Rattle.rules.specs.Encodings.{stepsOf}
 use Rattle.dispatch.proofs.NextSteps.{next-word, no-word}
 use Rattle.handlers.specs.Handled.{followedFrom}
 use Rattle.handlers.proofs.FollowLaws.{follows-few, broken-some, broken-none, followed-start, followed-end, followed-broken, followed-last, followed-on}
@@ -32,29 +33,8 @@ abbrev μ-loop : tie.MeasureT-loop
 few : (c : tie.After-follow Inv-loop μ-loop) → c .follow .result .more ≤ 12
 few c = follows-few _ _ _ _ _ _ _ _ (c .before .before .before .before .before .before .before .before .before .pre .1) (c .follow .ensures)
 
-copy-of-requires : tie.Need-copy-of-requires Inv-loop μ-loop
-copy-of-requires c κs = search needs
-
 loop-holds : tie.Need-loop-holds Inv-loop μ-loop
 loop-holds c = (omega arith, omega arith, search needs, rw (c .copy-of .ensures))
-
-slice-aggregate-follow : tie.Need-slice-aggregate-follow Inv-loop μ-loop
-slice-aggregate-follow c = search needs
-
-mul-decode : tie.Need-mul-decode Inv-loop μ-loop
-mul-decode c = search needs
-
-shared-slice-read-decode : tie.Need-shared-slice-read-decode Inv-loop μ-loop
-shared-slice-read-decode c = search needs
-
-decode-requires : tie.Need-decode-requires Inv-loop μ-loop
-decode-requires c κs = search needs
-
-follow-requires : tie.Need-follow-requires Inv-loop μ-loop
-follow-requires c κs = search needs
-
-enum-known-broken : tie.Need-enum-known-broken Inv-loop μ-loop
-enum-known-broken c = search needs
 
 returns : tie.Need-returns Inv-loop μ-loop
 returns c =
@@ -68,17 +48,8 @@ returns c =
     (next-word _ _ (i .2) (s .pre .1) (f .before .before .before .before .loop-test .taken) (f .before .decode .ensures) (f .follow .ensures .did)) _ _
     (broken-some _ _ (sym (f .follow .ensures .breaks) ∙ c .before .broken .given .1)))
 
-enum-told : tie.Need-enum-told Inv-loop μ-loop
-enum-told c = search needs
-
 add-triggers : tie.Need-add-triggers Inv-loop μ-loop
 add-triggers c = omega (arith, few (c .before .before .before .before))
-
-add-done : tie.Need-add-done Inv-loop μ-loop
-add-done c = search needs
-
-acknowledged-requires : tie.Need-acknowledged-requires Inv-loop μ-loop
-acknowledged-requires c κs = search needs
 
 within-requires : tie.Need-within-requires Inv-loop μ-loop
 within-requires c κs =
@@ -98,9 +69,6 @@ returns-2 c =
     (next-word _ _ (i .2) (s .pre .1) (f .before .before .before .before .loop-test .taken) (f .before .decode .ensures) (f .follow .ensures .did)) _
     (broken-none _ (sym (f .follow .ensures .breaks) ∙ c .before .before .before .before .enum-told .given .1)) (sym (c .before .before .acknowledged .ensures) ∙ c .before .if1 .taken)
     ∙ rw (c .within .ensures, f .follow .ensures .counts))
-
-loop-less : tie.Need-loop-less Inv-loop μ-loop
-loop-less c = search needs
 
 loop-again : tie.Need-loop-again Inv-loop μ-loop
 loop-again c =
@@ -126,27 +94,8 @@ returns-3 : tie.Need-returns-3 Inv-loop μ-loop
 returns-3 c = sym (followed-start _ _ _ _ ∙ c .before .before .loop .inv .3 ∙ followed-end _ _ _ _ _ _ _ (no-word _ _ (c .before .loop-test .left)) ∙ sym (c .within2 .ensures))
 
 pub followed-spec : {M : Type 1} → statement M
-followed-spec =
-    tie.close
-    (tie.spec
-    Inv-loop
-    μ-loop
-    copy-of-requires
-    loop-holds
-    slice-aggregate-follow
-    mul-decode
-    shared-slice-read-decode
-    decode-requires
-    follow-requires
-    enum-known-broken
-    returns
-    enum-told
-    add-triggers
-    add-done
-    acknowledged-requires
-    within-requires
-    returns-2
-    loop-less
-    loop-again
-    within-requires-2
-    returns-3)
+followed-spec {M} =
+    let answered = tie.spec {M = M} Inv-loop μ-loop (λ c κs. search needs) loop-holds (λ c. search needs) (λ c. search needs) (λ c. search needs) in
+    let answered = answered (λ c κs. search needs) (λ c κs. search needs) (λ c. search needs) returns (λ c. search needs) add-triggers in
+    let answered = answered (λ c. search needs) (λ c κs. search needs) within-requires returns-2 (λ c. search needs) loop-again within-requires-2 in
+    tie.close (answered returns-3)

@@ -1,11 +1,12 @@
 -- By its loop: the first i records are put.
 use mathlib.Core.Path.{_≡_, sym, ap, _∙_}
-use Prim.Native.Nat.{_+_, _*_, _≤_, _<_, _-_, _/_, _%_}
+use Prim.Native.Nat.{_≤_, _-_, _%_}
 use native.Mathlib.Omega.{arith}
 use lib.ListN.{length, getD}
 use borrow.Author.Needs.{needs}
 use Rattle.rules.specs.declared.Channels.{Channels}
-use Rattle.rules.specs.Channels.{noChannel, recordLength, listIn}
+use Rattle.rules.specs.Channels.{noChannel}
+use Rattle.rules.specs.Encodings.{recordLength, listIn}
 use Rattle.rules.proofs.PackedLaws.{list-in-length, list-in-at}
 use Rattle.lent.specs.Copies.{capped, blankOf, copiedUpTo}
 use Rattle.lent.proofs.CopyLaws.{capped-le, upto-count, upto-blank, upto-next, upto-all, blank-rest}
@@ -18,17 +19,8 @@ Inv-loop bytes all₀ n i₀ all i = (i ≤ n) × (n ≡ capped (length (listIn 
 abbrev μ-loop : tie.MeasureT-loop
 μ-loop bytes all₀ n i₀ all i = n - i
 
-add-blank : tie.Need-add-blank Inv-loop μ-loop
-add-blank c = search needs
-
-blank-requires : tie.Need-blank-requires Inv-loop μ-loop
-blank-requires c κs = search needs
-
 returns : tie.Need-returns Inv-loop μ-loop
 returns c = c .blank .ensures ∙ blank-rest _ (c .before .if1 .taken)
-
-blank-requires-2 : tie.Need-blank-requires-2 Inv-loop μ-loop
-blank-requires-2 c κs = search needs
 
 loop-holds : tie.Need-loop-holds Inv-loop μ-loop
 loop-holds c =
@@ -44,15 +36,6 @@ record-at-requires c κs =
     let k = capped-le (length (listIn bytes)) in
     let l = list-in-length bytes (v .2) in
     (omega (arith, v .1, k .1), omega (arith, v .1, k .0, l))
-
-put-requires : tie.Need-put-requires Inv-loop μ-loop
-put-requires c κs = search needs
-
-add-i : tie.Need-add-i Inv-loop μ-loop
-add-i c = search needs
-
-loop-less : tie.Need-loop-less Inv-loop μ-loop
-loop-less c = search needs
 
 loop-again : tie.Need-loop-again Inv-loop μ-loop
 loop-again c =
@@ -72,19 +55,6 @@ returns-2 c =
     v .3 ∙ upto-all _ _ (omega (arith, v .0, v .1))
 
 pub unpacked-spec : {M : Type 1} → statement M
-unpacked-spec =
-    tie.close
-    (tie.spec
-    Inv-loop
-    μ-loop
-    add-blank
-    blank-requires
-    returns
-    blank-requires-2
-    loop-holds
-    record-at-requires
-    put-requires
-    add-i
-    loop-less
-    loop-again
-    returns-2)
+unpacked-spec {M} =
+    let answered = tie.spec {M = M} Inv-loop μ-loop (λ c. search needs) (λ c κs. search needs) returns (λ c κs. search needs) loop-holds in
+    tie.close (answered record-at-requires (λ c κs. search needs) (λ c. search needs) (λ c. search needs) loop-again returns-2)

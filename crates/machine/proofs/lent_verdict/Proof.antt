@@ -2,7 +2,7 @@
 use mathlib.Core.Path.{sym, _∙_}
 use borrow.Author.Needs.{needs}
 use denote.Ref.{now}
-use Rattle.rules.specs.Image.{state}
+use Rattle.rules.specs.Outcomes.{state}
 use Rattle.rules.proofs.Refusals.{lent-length, lent-list, lent-accepted}
 use Rattle.machine.proofs.lent_verdict.Statement.{statement}
 use Rattle.machine.proofs.lent_verdict.Tie as tie

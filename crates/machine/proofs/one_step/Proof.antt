@@ -20,14 +20,6 @@ returns-2 : tie.Need-returns-2
 returns-2 c = does-by _ _ _ _ _ _ (sym (c .before .before .before .lent-verdict .ensures) ∙ c .before .r .given .1) refl
 
 pub one-step-spec : {M : Type 1} → statement M
-one-step-spec =
-    tie.close
-    (tie.spec
-    (λ c κs. search needs)
-    (λ c. search needs)
-    act-requires
-    (λ c. search needs)
-    (λ c. search needs)
-    returns
-    (λ c. search needs)
-    returns-2)
+one-step-spec {M} =
+    let answered = tie.spec {M = M} (λ c κs. search needs) (λ c. search needs) act-requires (λ c. search needs) (λ c. search needs) returns in
+    tie.close (answered (λ c. search needs) returns-2)

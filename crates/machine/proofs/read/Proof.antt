@@ -3,8 +3,7 @@ use mathlib.Core.Path.{refl, sym, ap, _∙_}
 use borrow.Author.Needs.{needs}
 use denote.Ref.{now}
 use Rattle.rules.specs.declared.Answer.{Answer}
-use Rattle.rules.specs.Image.{state}
-use Rattle.rules.specs.Outcomes.{outcome}
+use Rattle.rules.specs.Outcomes.{state, outcome}
 use Rattle.rules.specs.Steps.{actOf}
 use Rattle.rules.proofs.Refusals.{lent-sound}
 use Rattle.machine.proofs.LentLaws.{does-by}
@@ -21,11 +20,10 @@ unfolding actOf
 returns c =
     let d = c .before in
     let s = state (now (d .before .before .before .before .args .image)) in
-    does-by _ _ _ _ _ _ (sym (d .before .before .lent-verdict .ensures) ∙ d .enum-told .given .1)
-    (ap (λ (a : Answer). outcome a s) (c .read .ensures))
+    (does-by _ _ _ _ _ _ (sym (d .before .before .lent-verdict .ensures) ∙ d .enum-told .given .1) (ap (λ (a : Answer). outcome a s) (c .read .ensures))) .0
 
 returns-2 : tie.Need-returns-2
-returns-2 c = does-by _ _ _ _ _ _ (sym (c .before .before .before .lent-verdict .ensures) ∙ c .before .r .given .1) refl
+returns-2 c = (does-by _ _ _ _ _ _ (sym (c .before .before .before .lent-verdict .ensures) ∙ c .before .r .given .1) refl) .0
 
 pub read-spec : {M : Type 1} → statement M
 read-spec =

@@ -8,8 +8,8 @@ use denote.Laws.{Is}
 use borrow.Author.Needs.{needs}
 use Rattle.rules.specs.declared.Channels.{Channels}
 use Rattle.rules.specs.declared.Verdict.the-variants as verdict
-use Rattle.rules.specs.Image.{State}
 use Rattle.rules.specs.Channels.{mostRecords, listOf}
+use Rattle.rules.specs.Outcomes.{State}
 use Rattle.rules.specs.Sources.{sources}
 use Rattle.rules.specs.Steps.{lentVerdict}
 use Rattle.rules.proofs.Channels as S

@@ -33,15 +33,6 @@ returns-4 c =
     simp (le-ltb _ _ (d .before .if1 .left), le-leb _ _ (d .if2 .left), ne-eqb _ _ (c .before .if3 .left), c .records-place .ensures)
 
 pub place-of-spec : {M : Type 1} → statement M
-place-of-spec =
-    tie.close
-    (tie.spec
-    (λ c κs. search needs)
-    returns
-    returns-2
-    (λ c. search needs)
-    (λ c. search needs)
-    (λ c κs. search needs)
-    returns-3
-    records-place-requires
-    returns-4)
+place-of-spec {M} =
+    let answered = tie.spec {M = M} (λ c κs. search needs) returns returns-2 (λ c. search needs) (λ c. search needs) (λ c κs. search needs) in
+    tie.close (answered returns-3 records-place-requires returns-4)

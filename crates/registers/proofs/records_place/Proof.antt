@@ -34,33 +34,12 @@ abbrev μ-loop : tie.MeasureT-loop
 loop-holds : tie.Need-loop-holds Inv-loop μ-loop
 loop-holds c = (search needs, search needs, twelve (c .args .t1) _ (c .good .0), refl)
 
-mul-c : tie.Need-mul-c Inv-loop μ-loop
-mul-c c = search needs
-
-element-copy-out-c : tie.Need-element-copy-out-c Inv-loop μ-loop
-element-copy-out-c c = search needs
-
-record-place-requires : tie.Need-record-place-requires Inv-loop μ-loop
-record-place-requires c κs = search needs
-
-enum-known-i : tie.Need-enum-known-i Inv-loop μ-loop
-enum-known-i c = search needs
-
 returns : tie.Need-returns Inv-loop μ-loop
 returns c =
     let d = c .before .before .before .before .before .before in
     sym (d .loop .inv .3
     ∙ turn _ _ _ _ (At _ _) (d .loop .inv .2) (d .loop .inv .1) (c .before .before .before .before .before .loop-test .taken)
     (sym (c .before .i .given .1) ∙ c .before .before .before .record-place .ensures))
-
-enum-told : tie.Need-enum-told Inv-loop μ-loop
-enum-told c = search needs
-
-add-k : tie.Need-add-k Inv-loop μ-loop
-add-k c = search needs
-
-loop-less : tie.Need-loop-less Inv-loop μ-loop
-loop-less c = search needs
 
 loop-again : tie.Need-loop-again Inv-loop μ-loop
 loop-again c =
@@ -84,19 +63,6 @@ returns-2 c =
     ∙ ap (λ (cs : List Channel). recordsPlace cs (a .page) (a .register)) (rest-none all (d .loop .inv .2) (d .loop .inv .1)))
 
 pub records-place-spec : {M : Type 1} → statement M
-records-place-spec =
-    tie.close
-    (tie.spec
-    Inv-loop
-    μ-loop
-    loop-holds
-    mul-c
-    element-copy-out-c
-    record-place-requires
-    enum-known-i
-    returns
-    enum-told
-    add-k
-    loop-less
-    loop-again
-    returns-2)
+records-place-spec {M} =
+    let answered = tie.spec {M = M} Inv-loop μ-loop loop-holds (λ c. search needs) (λ c. search needs) (λ c κs. search needs) (λ c. search needs) in
+    tie.close (answered returns (λ c. search needs) (λ c. search needs) (λ c. search needs) loop-again returns-2)

@@ -24,15 +24,6 @@ returns-3 c = λ cs.
     sym (external-requests _ cs _ (s .before .before .before .pre .1) ∙ rw (sym (s .has-bit .ensures) ∙ c .if1 .left))
 
 pub external-request-spec : {M : Type 1} → statement M
-external-request-spec =
-    tie.close
-    (tie.spec
-    (λ c. search needs)
-    (λ c κs. search needs)
-    (λ c. search needs)
-    (λ c κs. search needs)
-    (λ c. search needs)
-    (λ c κs. search needs)
-    returns
-    returns-2
-    returns-3)
+external-request-spec {M} =
+    let answered = tie.spec {M = M} (λ c. search needs) (λ c κs. search needs) (λ c. search needs) (λ c κs. search needs) (λ c. search needs) in
+    tie.close (answered (λ c κs. search needs) returns returns-2 returns-3)

@@ -37,19 +37,10 @@ asks c =
     ∙ ap (λ (i : ℕ). recordRequest (at (now (s .args .image)) i)) (c .before .before .before .page-byte .ensures ∙ ap idcrByte same)
     ∙ record-requests _ (listOf (s .args .t2)) (d .before .loop .k))
 
-gather-externals-requires : tie.Need-gather-externals-requires Inv-loop μ-loop
-gather-externals-requires c κs = search needs
-
 loop-holds : tie.Need-loop-holds Inv-loop μ-loop
 loop-holds c =
     let s = c .before .before .before in
     (omega arith, count-short _ (s .good .1 .0) (s .pre .1), search needs, c .before .gather-externals .ensures (listOf (s .args .t2)))
-
-mul-c : tie.Need-mul-c Inv-loop μ-loop
-mul-c c = search needs
-
-element-copy-out-c : tie.Need-element-copy-out-c Inv-loop μ-loop
-element-copy-out-c c = search needs
 
 page-byte-requires : tie.Need-page-byte-requires Inv-loop μ-loop
 page-byte-requires c κs =
@@ -63,39 +54,12 @@ shared-slice-read-idcr c =
     let t = item-taken _ (s .good .1 .0) (s .pre .1) (d .before .loop .k) (d .loop-test .taken) in
     omega (arith, s .pre .0, t .place 0 (omega arith) _ (c .before .page-byte .ensures) .1)
 
-request-by-requires : tie.Need-request-by-requires Inv-loop μ-loop
-request-by-requires c κs = search needs
-
-rank-of-requires : tie.Need-rank-of-requires Inv-loop μ-loop
-rank-of-requires c κs = search needs
-
-add-k : tie.Need-add-k Inv-loop μ-loop
-add-k c = search needs
-
-loop-less : tie.Need-loop-less Inv-loop μ-loop
-loop-less c = search needs
-
 loop-again : tie.Need-loop-again Inv-loop μ-loop
 loop-again c =
     let d = c .before .before .before .before .before .before .before in
     let i = d .loop .inv in
     let e : 8 + d .loop .k + 1 ≡ 8 + (d .loop .k + 1) = omega arith in
     (omega arith, i .1, i .2, rw e at (ranks-skip _ _ _ (8 + d .loop .k) _ _ (asks (c .before)) (i .3) (omega arith) (c .if1 .taken)))
-
-add-ranks : tie.Need-add-ranks Inv-loop μ-loop
-add-ranks c = search needs
-
-array-write-ranks : tie.Need-array-write-ranks Inv-loop μ-loop
-array-write-ranks c = search needs
-
-lower-requires : tie.Need-lower-requires Inv-loop μ-loop
-lower-requires c κs = search needs
-
-add-k-2 : tie.Need-add-k-2 Inv-loop μ-loop
-add-k-2 c = search needs
-
-loop-less-2 : tie.Need-loop-less-2 Inv-loop μ-loop
-loop-less-2 c = search needs
 
 loop-again-2 : tie.Need-loop-again-2 Inv-loop μ-loop
 loop-again-2 c =
@@ -115,26 +79,8 @@ returns c =
     rw e at (c .before .loop .inv .3)
 
 pub gather-spec : {M : Type 1} → statement M
-gather-spec =
-    tie.close
-    (tie.spec
-    Inv-loop
-    μ-loop
-    gather-externals-requires
-    loop-holds
-    mul-c
-    element-copy-out-c
-    page-byte-requires
-    shared-slice-read-idcr
-    request-by-requires
-    rank-of-requires
-    add-k
-    loop-less
-    loop-again
-    add-ranks
-    array-write-ranks
-    lower-requires
-    add-k-2
-    loop-less-2
-    loop-again-2
-    returns)
+gather-spec {M} =
+    let answered = tie.spec {M = M} Inv-loop μ-loop (λ c κs. search needs) loop-holds (λ c. search needs) (λ c. search needs) page-byte-requires in
+    let answered = answered shared-slice-read-idcr (λ c κs. search needs) (λ c κs. search needs) (λ c. search needs) (λ c. search needs) loop-again in
+    let answered = answered (λ c. search needs) (λ c. search needs) (λ c κs. search needs) (λ c. search needs) (λ c. search needs) loop-again-2 in
+    tie.close (answered returns)

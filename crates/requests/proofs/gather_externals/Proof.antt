@@ -27,38 +27,11 @@ asks c cs = c .rank-of .ensures ∙ ap (rankOf _) (c .before .external-request .
 loop-holds : tie.Need-loop-holds Inv-loop μ-loop
 loop-holds c = (omega arith, refl, λ cs. ranks-none _ cs)
 
-cast-external-request : tie.Need-cast-external-request Inv-loop μ-loop
-cast-external-request c = search needs
-
-external-request-requires : tie.Need-external-request-requires Inv-loop μ-loop
-external-request-requires c κs = search needs
-
-rank-of-requires : tie.Need-rank-of-requires Inv-loop μ-loop
-rank-of-requires c κs = search needs
-
-add-k : tie.Need-add-k Inv-loop μ-loop
-add-k c = search needs
-
-loop-less : tie.Need-loop-less Inv-loop μ-loop
-loop-less c = search needs
-
 loop-again : tie.Need-loop-again Inv-loop μ-loop
 loop-again c =
     let d = c .before .before .before .before in
     let i = d .loop .inv in
     (omega arith, i .1, λ cs. ranks-skip _ cs (d .loop .ranks) (d .loop .k) _ (d .loop .least) (asks (c .before) cs) (i .2 cs) (omega arith) (c .if1 .taken))
-
-array-write-ranks : tie.Need-array-write-ranks Inv-loop μ-loop
-array-write-ranks c = search needs
-
-lower-requires : tie.Need-lower-requires Inv-loop μ-loop
-lower-requires c κs = search needs
-
-add-k-2 : tie.Need-add-k-2 Inv-loop μ-loop
-add-k-2 c = search needs
-
-loop-less-2 : tie.Need-loop-less-2 Inv-loop μ-loop
-loop-less-2 c = search needs
 
 loop-again-2 : tie.Need-loop-again-2 Inv-loop μ-loop
 loop-again-2 c =
@@ -75,21 +48,7 @@ returns : tie.Need-returns Inv-loop μ-loop
 returns c = let e : c .before .loop .k ≡ 8 = omega arith in rw e at (c .before .loop .inv .2)
 
 pub gather-externals-spec : {M : Type 1} → statement M
-gather-externals-spec =
-    tie.close
-    (tie.spec
-    Inv-loop
-    μ-loop
-    loop-holds
-    cast-external-request
-    external-request-requires
-    rank-of-requires
-    add-k
-    loop-less
-    loop-again
-    array-write-ranks
-    lower-requires
-    add-k-2
-    loop-less-2
-    loop-again-2
-    returns)
+gather-externals-spec {M} =
+    let answered = tie.spec {M = M} Inv-loop μ-loop loop-holds (λ c. search needs) (λ c κs. search needs) (λ c κs. search needs) in
+    let answered = answered (λ c. search needs) (λ c. search needs) loop-again (λ c. search needs) (λ c κs. search needs) (λ c. search needs) in
+    tie.close (answered (λ c. search needs) loop-again-2 returns)

@@ -48,20 +48,6 @@ unfolding rankOf eligible
 returns-6 c = rw (c .before .before .before .request2 .given .1, sym (c .before .has-bit .ensures) ∙ c .if2 .left)
 
 pub rank-of-spec : {M : Type 1} → statement M
-rank-of-spec =
-    tie.close
-    (tie.spec
-    (λ c. search needs)
-    (λ c. search needs)
-    (λ c. search needs)
-    (λ c. search needs)
-    returns
-    (λ c. search needs)
-    (λ c κs. search needs)
-    (λ c. search needs)
-    (λ c. search needs)
-    returns-2
-    returns-3
-    returns-4
-    returns-5
-    returns-6)
+rank-of-spec {M} =
+    let answered = tie.spec {M = M} (λ c. search needs) (λ c. search needs) (λ c. search needs) (λ c. search needs) returns (λ c. search needs) in
+    tie.close (answered (λ c κs. search needs) (λ c. search needs) (λ c. search needs) returns-2 returns-3 returns-4 returns-5 returns-6)

@@ -31,12 +31,4 @@ returns-4 c = simp (sym (c .before .has-bit .ensures) ∙ c .if1 .left)
 
 pub request-by-spec : {M : Type 1} → statement M
 request-by-spec =
-    tie.close
-    (tie.spec
-    (λ c κs. search needs)
-    (λ c κs. search needs)
-    returns
-    (λ c κs. search needs)
-    returns-2
-    returns-3
-    returns-4)
+    tie.close (tie.spec (λ c κs. search needs) (λ c κs. search needs) returns (λ c κs. search needs) returns-2 returns-3 returns-4)

@@ -45,18 +45,6 @@ loop-holds : tie.Need-loop-holds Inv-loop2 μ-loop2 Inv-loop μ-loop Inv-scan μ
 unfolding first
 loop-holds c = (c .before .scan .inv .0, omega arith, refl)
 
-mul-rank : tie.Need-mul-rank Inv-loop2 μ-loop2 Inv-loop μ-loop Inv-scan μ-scan
-mul-rank c = search needs
-
-add-rank : tie.Need-add-rank Inv-loop2 μ-loop2 Inv-loop μ-loop Inv-scan μ-scan
-add-rank c = search needs
-
-add-kind : tie.Need-add-kind Inv-loop2 μ-loop2 Inv-loop μ-loop Inv-scan μ-scan
-add-kind c = search needs
-
-loop-less : tie.Need-loop-less Inv-loop2 μ-loop2 Inv-loop μ-loop Inv-scan μ-scan
-loop-less c = search needs
-
 loop-again : tie.Need-loop-again Inv-loop2 μ-loop2 Inv-loop μ-loop Inv-scan μ-scan
 loop-again c =
     let d = c .before .before in
@@ -68,33 +56,12 @@ loop2-holds : tie.Need-loop2-holds Inv-loop2 μ-loop2 Inv-loop μ-loop Inv-scan 
 unfolding first
 loop2-holds c = (c .before .before .loop .inv .0, omega arith, refl)
 
-array-read-if2 : tie.Need-array-read-if2 Inv-loop2 μ-loop2 Inv-loop μ-loop Inv-scan μ-scan
-array-read-if2 c = search needs
-
-cast-won : tie.Need-cast-won Inv-loop2 μ-loop2 Inv-loop μ-loop Inv-scan μ-scan
-cast-won c = search needs
-
-won-requires : tie.Need-won-requires Inv-loop2 μ-loop2 Inv-loop μ-loop Inv-scan μ-scan
-won-requires c κs = search needs
-
-add-position : tie.Need-add-position Inv-loop2 μ-loop2 Inv-loop μ-loop Inv-scan μ-scan
-add-position c = search needs
-
-loop2-less : tie.Need-loop2-less Inv-loop2 μ-loop2 Inv-loop μ-loop Inv-scan μ-scan
-loop2-less c = search needs
-
 loop2-again : tie.Need-loop2-again Inv-loop2 μ-loop2 Inv-loop μ-loop Inv-scan μ-scan
 loop2-again c = (
   c .before .before .loop2 .inv .0,
   omega arith,
   first-more _ _ (c .before .before .loop2 .inv .2) (found-none _ _ _ _ (c .if2 .left)),
 )
-
-add-kind-2 : tie.Need-add-kind-2 Inv-loop2 μ-loop2 Inv-loop μ-loop Inv-scan μ-scan
-add-kind-2 c = search needs
-
-loop-less-2 : tie.Need-loop-less-2 Inv-loop2 μ-loop2 Inv-loop μ-loop Inv-scan μ-scan
-loop-less-2 c = search needs
 
 loop-again-2 : tie.Need-loop-again-2 Inv-loop2 μ-loop2 Inv-loop μ-loop Inv-scan μ-scan
 unfolding foundOfKind
@@ -103,12 +70,6 @@ loop-again-2 c = (
   omega arith,
   first-more _ _ (c .before .before .before .before .loop .inv .2) (first-end _ _ _ (c .before .loop2 .inv .1) (c .loop2-test .left) (c .before .loop2 .inv .2)),
 )
-
-add-level : tie.Need-add-level Inv-loop2 μ-loop2 Inv-loop μ-loop Inv-scan μ-scan
-add-level c = search needs
-
-scan-less : tie.Need-scan-less Inv-loop2 μ-loop2 Inv-loop μ-loop Inv-scan μ-scan
-scan-less c = search needs
 
 scan-again : tie.Need-scan-again Inv-loop2 μ-loop2 Inv-loop μ-loop Inv-scan μ-scan
 unfolding foundAtLevel
@@ -136,34 +97,8 @@ returns-2 c =
     (first-hit _ _ _ _ (c .before .before .loop2-test .taken) (p .loop2 .inv .2) (found-here _ _ _ _ (c .before .if2 .taken)) s) s) s)
 
 pub scan-spec : {M : Type 1} → statement M
-scan-spec =
-    tie.close
-    (tie.spec
-    Inv-loop2
-    μ-loop2
-    Inv-loop
-    μ-loop
-    Inv-scan
-    μ-scan
-    scan-holds
-    loop-holds
-    mul-rank
-    add-rank
-    add-kind
-    loop-less
-    loop-again
-    loop2-holds
-    array-read-if2
-    cast-won
-    won-requires
-    add-position
-    loop2-less
-    loop2-again
-    add-kind-2
-    loop-less-2
-    loop-again-2
-    add-level
-    scan-less
-    scan-again
-    returns
-    returns-2)
+scan-spec {M} =
+    let answered = tie.spec {M = M} Inv-loop2 μ-loop2 Inv-loop μ-loop Inv-scan μ-scan scan-holds loop-holds (λ c. search needs) (λ c. search needs) in
+    let answered = answered (λ c. search needs) (λ c. search needs) loop-again loop2-holds (λ c. search needs) (λ c. search needs) in
+    let answered = answered (λ c κs. search needs) (λ c. search needs) (λ c. search needs) loop2-again (λ c. search needs) (λ c. search needs) in
+    tie.close (answered loop-again-2 (λ c. search needs) (λ c. search needs) scan-again returns returns-2)

@@ -30,23 +30,11 @@ looked m cs k i e = record-reads m cs (8 + k) (omega arith) .enables ∙ rw (rec
 loop-holds : tie.Need-loop-holds Inv-loop μ-loop
 loop-holds c = (omega arith, any-none _ 8 (λ k h. external-reads _ _ k h .enables))
 
-idcr-of-requires : tie.Need-idcr-of-requires Inv-loop μ-loop
-idcr-of-requires c κs = search needs
-
-has-bit-requires : tie.Need-has-bit-requires Inv-loop μ-loop
-has-bit-requires c κs = search needs
-
 returns : tie.Need-returns Inv-loop μ-loop
 returns c =
     let l = c .before .before .before .before .before in
     let s = l .before .before in
     sym (any-one _ _ (8 + l .loop .k) (omega (arith, source-count _ (s .good .1 .0) (s .pre .1))) (looked _ _ _ (c .before .before .idcr-of .ensures) (c .before .has-bit .ensures) ∙ c .if2 .taken))
-
-add-k : tie.Need-add-k Inv-loop μ-loop
-add-k c = search needs
-
-loop-less : tie.Need-loop-less Inv-loop μ-loop
-loop-less c = search needs
 
 loop-again : tie.Need-loop-again Inv-loop μ-loop
 loop-again c =
@@ -62,16 +50,6 @@ returns-2 c =
     sym (rw e at (l .loop .inv .1))
 
 pub any-dma-spec : {M : Type 1} → statement M
-any-dma-spec =
-    tie.close
-    (tie.spec
-    Inv-loop
-    μ-loop
-    loop-holds
-    idcr-of-requires
-    has-bit-requires
-    returns
-    add-k
-    loop-less
-    loop-again
-    returns-2)
+any-dma-spec {M} =
+    let answered = tie.spec {M = M} Inv-loop μ-loop loop-holds (λ c κs. search needs) (λ c κs. search needs) returns (λ c. search needs) in
+    tie.close (answered (λ c. search needs) loop-again returns-2)

@@ -1,6 +1,6 @@
 -- The code makes the definition's two tests on the two levels.
 use borrow.Author.Needs.{needs}
-use Rattle.rules.specs.Waiting.{outranks}
+use Rattle.rules.specs.Demand3.{outranks}
 use Rattle.sources.proofs.is_outranking.Statement.{statement}
 use Rattle.sources.proofs.is_outranking.Tie as tie
 

@@ -1,6 +1,6 @@
 -- The code makes the definition's two tests.
 use borrow.Author.Needs.{needs}
-use Rattle.rules.specs.Waiting.{rival}
+use Rattle.rules.specs.Demand3.{rival}
 use Rattle.sources.proofs.is_rival.Statement.{statement}
 use Rattle.sources.proofs.is_rival.Tie as tie
 

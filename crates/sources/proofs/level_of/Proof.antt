@@ -20,11 +20,4 @@ returns-2 c = ap (λ (b : ℕ). b % 8) (c .idcr-of .ensures) ∙ sym (record-rea
 
 pub level-of-spec : {M : Type 1} → statement M
 level-of-spec =
-    tie.close
-    (tie.spec
-    (λ c. search needs)
-    (λ c. search needs)
-    (λ c κs. search needs)
-    returns
-    idcr-of-requires
-    returns-2)
+    tie.close (tie.spec (λ c. search needs) (λ c. search needs) (λ c κs. search needs) returns idcr-of-requires returns-2)

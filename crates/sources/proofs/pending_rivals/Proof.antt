@@ -6,7 +6,7 @@ use native.Mathlib.Omega.{arith}
 use borrow.Author.Needs.{needs}
 use Rattle.rules.specs.Channels.{mostRecords, listOf}
 use Rattle.rules.specs.Sources.{sources, pending}
-use Rattle.rules.specs.Waiting.{rival, countBelow, pendingOf}
+use Rattle.rules.specs.Demand3.{rival, countBelow, pendingOf}
 use Rattle.rules.proofs.Counting.{count-more}
 use Rattle.channels.proofs.ItemLaws.{count-short}
 use Rattle.sources.proofs.SourceReads.{source-count}
@@ -25,9 +25,6 @@ loop-holds : tie.Need-loop-holds Inv-loop μ-loop
 unfolding countBelow
 loop-holds c = (omega arith, count-short _ (c .before .good .1 .0) (c .before .pre .1), omega arith, refl)
 
-add-if1 : tie.Need-add-if1 Inv-loop μ-loop
-add-if1 c = search needs
-
 pending-rival-requires : tie.Need-pending-rival-requires Inv-loop μ-loop
 pending-rival-requires c κs =
     let s = c .before .before .before .before in
@@ -35,12 +32,6 @@ pending-rival-requires c κs =
 
 add-n : tie.Need-add-n Inv-loop μ-loop
 add-n c = omega (arith, count-more _ _ _ _ (c .before .before .before .loop .inv .3) (c .pending-rival .ensures) .0)
-
-add-k : tie.Need-add-k Inv-loop μ-loop
-add-k c = search needs
-
-loop-less : tie.Need-loop-less Inv-loop μ-loop
-loop-less c = search needs
 
 loop-again : tie.Need-loop-again Inv-loop μ-loop
 loop-again c =
@@ -57,16 +48,6 @@ returns c =
     rw e at (l .loop .inv .3)
 
 pub pending-rivals-spec : {M : Type 1} → statement M
-pending-rivals-spec =
-    tie.close
-    (tie.spec
-    Inv-loop
-    μ-loop
-    loop-holds
-    add-if1
-    pending-rival-requires
-    add-n
-    add-k
-    loop-less
-    loop-again
-    returns)
+pending-rivals-spec {M} =
+    let answered = tie.spec {M = M} Inv-loop μ-loop loop-holds (λ c. search needs) pending-rival-requires add-n (λ c. search needs) in
+    tie.close (answered (λ c. search needs) loop-again returns)

@@ -20,13 +20,6 @@ returns-2 : tie.Need-returns-2
 returns-2 c = rw (le-ltb _ _ (c .before .before .if1 .left)) (c .has-bit2 .ensures ∙ ap (bit _) (c .before .idcr-of .ensures))
 
 pub source-bit-spec : {M : Type 1} → statement M
-source-bit-spec =
-    tie.close
-    (tie.spec
-    (λ c. search needs)
-    (λ c. search needs)
-    (λ c κs. search needs)
-    returns
-    idcr-of-requires
-    (λ c κs. search needs)
-    returns-2)
+source-bit-spec {M} =
+    let answered = tie.spec {M = M} (λ c. search needs) (λ c. search needs) (λ c κs. search needs) returns idcr-of-requires (λ c κs. search needs) in
+    tie.close (answered returns-2)

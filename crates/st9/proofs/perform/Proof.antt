@@ -1,7 +1,7 @@
 -- A thin entry over `machine::perform`: the law `One` of crate lent, for a number. Assumes nothing.
 use mir.Syntax.{w64}
 use Rattle.rules.specs.Channels.{listOf}
-use Rattle.rules.specs.Steps.{decodeOf}
+use Rattle.rules.specs.Encodings.{decodeOf}
 use Rattle.rules.specs.Promises.{DoesWord}
 use Rattle.rules.proofs.Answer as R
 use Rattle.rules.proofs.Answer.Laws as R′

@@ -1,7 +1,7 @@
 -- The registers' verdict, by its number.
 use mathlib.Core.Path.{ap}
 use borrow.Author.Needs.{needs}
-use Rattle.rules.specs.Answers.{toldVerdict}
+use Rattle.rules.specs.Encodings.{toldVerdict}
 use Rattle.st9.proofs.view_verdict.Statement.{statement}
 use Rattle.st9.proofs.view_verdict.Tie as tie
 

@@ -44,15 +44,6 @@ returns-2 c =
     simp (le-ltb (s .args .source) 8 (omega (arith, d .if1 .left)), t .same, p .page-byte .ensures, c .before .before .put-at2 .ensures)
 
 pub clear-pending-spec : {M : Type 1} → statement M
-clear-pending-spec =
-    tie.close
-    (tie.spec
-    (λ c κs. search needs)
-    (λ c. search needs)
-    returns
-    (λ c. search needs)
-    element-copy-out-c
-    page-byte-requires
-    put-at-requires-2
-    (λ c. search needs)
-    returns-2)
+clear-pending-spec {M} =
+    let answered = tie.spec {M = M} (λ c κs. search needs) (λ c. search needs) returns (λ c. search needs) element-copy-out-c page-byte-requires in
+    tie.close (answered put-at-requires-2 (λ c. search needs) returns-2)

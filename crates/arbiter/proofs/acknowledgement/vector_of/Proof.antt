@@ -51,17 +51,6 @@ returns-2 c =
     simp (le-ltb (s .args .source) 8 (omega (arith, d .if1 .left)), t .same, c .before .page-byte .ensures)
 
 pub vector-of-spec : {M : Type 1} → statement M
-vector-of-spec =
-    tie.close
-    (tie.spec
-    (λ c. search needs)
-    mul-result
-    (λ c. search needs)
-    add-result
-    returns
-    (λ c. search needs)
-    element-copy-out-c
-    page-byte-requires
-    shared-slice-read-result-2
-    mul-result-3
-    returns-2)
+vector-of-spec {M} =
+    let answered = tie.spec {M = M} (λ c. search needs) mul-result (λ c. search needs) add-result returns (λ c. search needs) element-copy-out-c in
+    tie.close (answered page-byte-requires shared-slice-read-result-2 mul-result-3 returns-2)

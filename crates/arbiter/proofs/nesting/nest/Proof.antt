@@ -17,13 +17,6 @@ returns-2 c =
     simp (sym (d .before .has-bit .ensures) ∙ not-false _ (d .if1 .left), c .before .before .put-cpl .ensures, p .push .ensures)
 
 pub nest-spec : {M : Type 1} → statement M
-nest-spec =
-    tie.close
-    (tie.spec
-    (λ c. search needs)
-    (λ c κs. search needs)
-    returns
-    (λ c κs. search needs)
-    (λ c κs. search needs)
-    (λ c. search needs)
-    returns-2)
+nest-spec {M} =
+    let answered = tie.spec {M = M} (λ c. search needs) (λ c κs. search needs) returns (λ c κs. search needs) (λ c κs. search needs) in
+    tie.close (answered (λ c. search needs) returns-2)

@@ -26,14 +26,6 @@ returns-2 c =
     simp (sym (d .before .has-bit .ensures) ∙ not-false _ (d .if1 .left), c .before .before .put-cpl .ensures, p .pop .ensures, l .restored-level .ensures)
 
 pub unnest-spec : {M : Type 1} → statement M
-unnest-spec =
-    tie.close
-    (tie.spec
-    (λ c. search needs)
-    (λ c κs. search needs)
-    returns
-    (λ c κs. search needs)
-    (λ c κs. search needs)
-    put-cpl-requires
-    (λ c. search needs)
-    returns-2)
+unnest-spec {M} =
+    let answered = tie.spec {M = M} (λ c. search needs) (λ c κs. search needs) returns (λ c κs. search needs) (λ c κs. search needs) in
+    tie.close (answered put-cpl-requires (λ c. search needs) returns-2)

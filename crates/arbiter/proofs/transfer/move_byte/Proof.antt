@@ -38,15 +38,6 @@ returns-2 c =
     simp (ne-eqb _ _ (c .before .if1 .left), register-place (s .args .c) (s .pre .1) 4 (omega arith) _ (d .page-byte .ensures) .0)
 
 pub move-byte-spec : {M : Type 1} → statement M
-move-byte-spec =
-    tie.close
-    (tie.spec
-    page-byte-requires
-    slice-read-image
-    (λ c. search needs)
-    (λ c. search needs)
-    slice-write-image-2
-    (λ c. search needs)
-    returns
-    (λ c. search needs)
-    returns-2)
+move-byte-spec {M} =
+    let answered = tie.spec {M = M} page-byte-requires slice-read-image (λ c. search needs) (λ c. search needs) slice-write-image-2 in
+    tie.close (answered (λ c. search needs) returns (λ c. search needs) returns-2)

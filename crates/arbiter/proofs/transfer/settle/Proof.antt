@@ -63,16 +63,6 @@ returns-2 c =
     )
 
 pub settle-spec : {M : Type 1} → statement M
-settle-spec =
-    tie.close
-    (tie.spec
-    page-byte-requires
-    slice-read-has-bit
-    (λ c κs. search needs)
-    put-at-requires
-    put-at-requires-2
-    (λ c. search needs)
-    returns
-    put-at-requires-3
-    (λ c. search needs)
-    returns-2)
+settle-spec {M} =
+    let answered = tie.spec {M = M} page-byte-requires slice-read-has-bit (λ c κs. search needs) put-at-requires put-at-requires-2 in
+    tie.close (answered (λ c. search needs) returns put-at-requires-3 (λ c. search needs) returns-2)

@@ -38,31 +38,22 @@ returns-2 c =
 
 cast-if3 : tie.Need-cast-if3
 cast-if3 c =
-    let p = c .before .before .before .before in
-    omega (arith, c .slice-known3 .given (at (p .before .before .args .image .now) (p .page-byte .result) / 2 * 2))
+    let p = c .before .before .before .before .before in
+    omega (arith, c .before .slice-known3 .given (at (p .before .before .args .image .now) (p .page-byte .result) / 2 * 2))
 
 returns-3 : tie.Need-returns-3
 unfolding transferOf dcprByte pairOf
 returns-3 c =
-    let d = c .before .before in
+    let d = c .before .before .before in
     let e = d .before in
     simp (sym (e .before .before .page-byte .ensures), e .if1 .left, le-ltb _ _ (d .if2 .left), lt-ltb _ _ (c .if3 .taken))
-
-serve-requires : tie.Need-serve-requires
-unfolding dcprByte pairOf
-serve-requires c κs =
-    let d = c .before in
-    let e = d .before .before in
-    let p = e .before .before .before in
-    let s = p .before .before in
-    (s .pre .0, s .pre .1, rw (p .page-byte .ensures), e .if2 .left, d .if3 .left)
 
 returns-4 : tie.Need-returns-4
 unfolding transferOf dcprByte pairOf
 returns-4 c =
     let d = c .before .before in
     let e = d .before .before in
-    let g = e .before .before in
+    let g = e .before .before .before in
     let h = g .before in
     simp (
       sym (h .before .before .page-byte .ensures),
@@ -73,18 +64,6 @@ returns-4 c =
     )
 
 pub transfer-spec : {M : Type 1} → statement M
-transfer-spec =
-    tie.close
-    (tie.spec
-    page-byte-requires
-    slice-read-dcpr
-    returns
-    mul-n
-    cast-n
-    returns-2
-    (λ c. search needs)
-    cast-if3
-    returns-3
-    serve-requires
-    (λ c. search needs)
-    returns-4)
+transfer-spec {M} =
+    let answered = tie.spec {M = M} page-byte-requires slice-read-dcpr returns mul-n cast-n returns-2 (λ c. search needs) (λ c. search needs) in
+    tie.close (answered (λ c. search needs) cast-if3 returns-3 (λ c κs. search needs) (λ c. search needs) returns-4)

@@ -6,9 +6,9 @@ use native.Mathlib.Omega.{arith}
 use borrow.Author.Needs.{needs}
 use borrow.Author.Tests.{lt-ltb, le-ltb}
 use Rattle.rules.specs.declared.Channel.{Channel}
-use Rattle.rules.specs.Channels.{recordAt, listOf}
-use Rattle.rules.specs.Sources.{IP, pendingBit, pending}
-use Rattle.rules.specs.Triggers.{triggerVerdict, selects, selectsTop, sourceEffect, raiseSource, topEffect, raiseTop, fire, triggerOf}
+use Rattle.rules.specs.Channels.{recordAt, listOf, IP}
+use Rattle.rules.specs.Sources.{pendingBit, pending}
+use Rattle.rules.specs.Triggers.{triggerVerdict, selects, selectsTop, sourceEffect, raiseSource, topEffect, raiseTop, fired, triggerOf}
 use Rattle.rules.proofs.PendingLaws.{record-of}
 use Rattle.channels.proofs.ItemLaws.{list-count, item-taken}
 use Rattle.arbiter.proofs.triggers.channel_request.Statement.{statement}
@@ -20,7 +20,7 @@ unfolding pendingBit
 record-pending cs k = rw (le-ltb (8 + k) 8 (omega arith), record-of cs k)
 
 returns : tie.Need-returns
-unfolding triggerOf fire triggerVerdict
+unfolding triggerOf fired triggerVerdict
 returns c =
     let s = c .before .before in
     simp (list-count _ (s .good .1 .0) (s .pre .1), le-ltb _ _ (c .if1 .taken))
@@ -45,7 +45,7 @@ raise-requires c κs =
     (omega (arith, s .pre .0, place .1), omega arith)
 
 returns-2 : tie.Need-returns-2
-unfolding triggerOf fire triggerVerdict selects selectsTop sourceEffect raiseSource topEffect raiseTop pending
+unfolding triggerOf fired triggerVerdict selects selectsTop sourceEffect raiseSource topEffect raiseTop pending
 returns-2 c =
     let r = c .before .before in
     let p = r .before .before in

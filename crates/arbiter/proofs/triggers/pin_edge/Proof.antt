@@ -6,7 +6,7 @@ use native.Mathlib.Omega.{arith}
 use lib.Dec.{ltb}
 use borrow.Author.Needs.{needs}
 use borrow.Author.Tests.{ltb-false}
-use Rattle.rules.specs.Triggers.{triggerVerdict, selects, selectsTop, topEffect, raiseTop, fire, triggerOf}
+use Rattle.rules.specs.Triggers.{triggerVerdict, selects, selectsTop, topEffect, raiseTop, fired, triggerOf}
 use Rattle.rules.proofs.Bools.{or-off}
 use Rattle.arbiter.proofs.RaisingLaws.{external-effect, external-raised}
 use Rattle.arbiter.proofs.triggers.pin_edge.Statement.{statement}
@@ -17,7 +17,7 @@ low-pin : (pin direction : ℕ) → (ltb 7 pin || ltb 1 direction) ≡ false →
 low-pin pin direction e = omega (arith, ltb-false 7 pin (or-off (ltb 7 pin) (ltb 1 direction) e))
 
 returns : tie.Need-returns
-unfolding triggerOf fire triggerVerdict
+unfolding triggerOf fired triggerVerdict
 returns c cs = simp (c .if1 .taken)
 
 cast-k : tie.Need-cast-k
@@ -37,7 +37,7 @@ raise-requires c κs =
     (omega (arith, s .before .before .pre), low-pin (args .pin) (args .direction) (s .if1 .left))
 
 returns-2 : tie.Need-returns-2
-unfolding triggerOf fire triggerVerdict selects selectsTop topEffect raiseTop
+unfolding triggerOf fired triggerVerdict selects selectsTop topEffect raiseTop
 returns-2 c cs =
     let r = c .before .before in
     let i = r .before .before in
@@ -57,16 +57,6 @@ returns-2 c cs =
     )
 
 pub pin-edge-spec : {M : Type 1} → statement M
-pin-edge-spec =
-    tie.close
-    (tie.spec
-    returns
-    cast-k
-    (λ c. search needs)
-    has-bit-requires
-    (λ c κs. search needs)
-    (λ c. search needs)
-    (λ c κs. search needs)
-    raise-requires
-    (λ c. search needs)
-    returns-2)
+pin-edge-spec {M} =
+    let answered = tie.spec {M = M} returns cast-k (λ c. search needs) has-bit-requires (λ c κs. search needs) (λ c. search needs) in
+    tie.close (answered (λ c κs. search needs) raise-requires (λ c. search needs) returns-2)

@@ -27,14 +27,6 @@ returns-3 c =
     (simp (on, sym (h .has-bit .ensures), c .if2 .left), simp (on, p .put-at .ensures))
 
 pub raise-spec : {M : Type 1} → statement M
-raise-spec =
-    tie.close
-    (tie.spec
-    returns
-    (λ c. search needs)
-    (λ c κs. search needs)
-    (λ c κs. search needs)
-    (λ c. search needs)
-    returns-2
-    (λ c. search needs)
-    returns-3)
+raise-spec {M} =
+    let answered = tie.spec {M = M} returns (λ c. search needs) (λ c κs. search needs) (λ c κs. search needs) (λ c. search needs) returns-2 in
+    tie.close (answered (λ c. search needs) returns-3)

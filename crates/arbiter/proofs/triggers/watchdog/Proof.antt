@@ -6,7 +6,7 @@ use native.Mathlib.Omega.{arith}
 use lib.Dec.{lit<}
 use borrow.Author.Needs.{needs}
 use Rattle.rules.specs.Image.{Image, bitOf, has, put, EIPR, TLIP, IAOS}
-use Rattle.rules.specs.Triggers.{triggerVerdict, selects, selectsTop, topEffect, raiseTop, fire, triggerOf}
+use Rattle.rules.specs.Triggers.{triggerVerdict, selects, selectsTop, topEffect, raiseTop, fired, triggerOf}
 use Rattle.rules.proofs.Bools.{cond-elim}
 use Rattle.rules.proofs.ImageLaws.{has-put-other}
 use Rattle.arbiter.proofs.RaisingLaws.{external-effect, external-raised}
@@ -19,7 +19,7 @@ top-stays m b =
     cond-elim (λ i. has i TLIP ≡ has m TLIP) b (λ t. has-put-other m (bitOf EIPR 0) true TLIP (lit< tt) (lit< tt) (inl (λ e. omega arith))) (λ f. refl)
 
 returns : tie.Need-returns
-unfolding triggerOf fire triggerVerdict selects selectsTop topEffect raiseTop
+unfolding triggerOf fired triggerVerdict selects selectsTop topEffect raiseTop
 returns c cs =
     let q = c .before .before in
     let r = q .before .before .before .before .before in
@@ -37,13 +37,6 @@ returns c cs =
     )
 
 pub watchdog-spec : {M : Type 1} → statement M
-watchdog-spec =
-    tie.close
-    (tie.spec
-    (λ c. search needs)
-    (λ c κs. search needs)
-    (λ c κs. search needs)
-    (λ c κs. search needs)
-    (λ c κs. search needs)
-    (λ c. search needs)
-    returns)
+watchdog-spec {M} =
+    let answered = tie.spec {M = M} (λ c. search needs) (λ c κs. search needs) (λ c κs. search needs) (λ c κs. search needs) (λ c κs. search needs) in
+    tie.close (answered (λ c. search needs) returns)

@@ -26,23 +26,8 @@ Inv-loop image m₀ i₀ m i = (i ≤ imageLength) × (length m ≡ imageLength)
 abbrev μ-loop : tie.MeasureT-loop
 μ-loop image m₀ i₀ m i = imageLength - i
 
-zeros-requires : tie.Need-zeros-requires Inv-loop μ-loop
-zeros-requires c κs = search needs
-
 loop-holds : tie.Need-loop-holds Inv-loop μ-loop
 loop-holds c = (search needs, search needs, refl)
-
-shared-slice-read-m : tie.Need-shared-slice-read-m Inv-loop μ-loop
-shared-slice-read-m c = search needs
-
-array-write-m : tie.Need-array-write-m Inv-loop μ-loop
-array-write-m c = search needs
-
-add-i : tie.Need-add-i Inv-loop μ-loop
-add-i c = search needs
-
-loop-less : tie.Need-loop-less Inv-loop μ-loop
-loop-less c = search needs
 
 loop-again : tie.Need-loop-again Inv-loop μ-loop
 loop-again c =
@@ -55,16 +40,6 @@ returns c =
     all-copied (l .m) _ (l .i) (omega (arith, l .inv .1)) (omega (arith, c .before .before .before .before .pre)) (l .inv .2)
 
 pub copy-of-spec : {M : Type 1} → statement M
-copy-of-spec =
-    tie.close
-    (tie.spec
-    Inv-loop
-    μ-loop
-    zeros-requires
-    loop-holds
-    shared-slice-read-m
-    array-write-m
-    add-i
-    loop-less
-    loop-again
-    returns)
+copy-of-spec {M} =
+    let answered = tie.spec {M = M} Inv-loop μ-loop (λ c κs. search needs) loop-holds (λ c. search needs) (λ c. search needs) (λ c. search needs) in
+    tie.close (answered (λ c. search needs) loop-again returns)

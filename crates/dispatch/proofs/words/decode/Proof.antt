@@ -1,7 +1,7 @@
 -- Each arm is the definition's for its kind field; the last has none of the six.
 use borrow.Author.Needs.{needs}
 use borrow.Author.Tests.{ne-eqb}
-use Rattle.rules.specs.Steps.{stepBy, decodeOf}
+use Rattle.rules.specs.Encodings.{stepBy, decodeOf}
 use Rattle.dispatch.proofs.words.decode.Statement.{statement}
 use Rattle.dispatch.proofs.words.decode.Tie as tie
 
@@ -43,16 +43,6 @@ returns-7 c =
     )
 
 pub decode-spec : {M : Type 1} → statement M
-decode-spec =
-    tie.close
-    (tie.spec
-    (λ c. search needs)
-    (λ c. search needs)
-    (λ c κs. search needs)
-    returns
-    returns-2
-    returns-3
-    returns-4
-    returns-5
-    returns-6
-    returns-7)
+decode-spec {M} =
+    let answered = tie.spec {M = M} (λ c. search needs) (λ c. search needs) (λ c κs. search needs) returns returns-2 returns-3 returns-4 returns-5 in
+    tie.close (answered returns-6 returns-7)

@@ -1,6 +1,6 @@
 -- Each arm is the definition's for its kind; the last has none of the four.
 use borrow.Author.Tests.{ne-eqb}
-use Rattle.rules.specs.Steps.{triggerBy}
+use Rattle.rules.specs.Encodings.{triggerBy}
 use Rattle.dispatch.proofs.words.trigger_by.Statement.{statement}
 use Rattle.dispatch.proofs.words.trigger_by.Tie as tie
 

@@ -24,9 +24,6 @@ loop-holds : tie.Need-loop-holds Inv-loop μ-loop
 unfolding anyBelow
 loop-holds c = let s = c .before .before in (omega arith, count-short _ (s .good .1 .1 .0) (s .pre .2), refl)
 
-add-if1 : tie.Need-add-if1 Inv-loop μ-loop
-add-if1 c = search needs
-
 source-changed-requires : tie.Need-source-changed-requires Inv-loop μ-loop
 source-changed-requires c κs =
     let s = c .before .before .before .before .before in
@@ -37,12 +34,6 @@ returns c =
     let l = c .before .before .before .before in
     let s = l .before .before .before in
     sym (any-one _ _ (l .loop .k) (omega (arith, source-count _ (s .good .1 .1 .0) (s .pre .2))) (sym (c .before .source-changed .ensures) ∙ c .if2 .taken))
-
-add-k : tie.Need-add-k Inv-loop μ-loop
-add-k c = search needs
-
-loop-less : tie.Need-loop-less Inv-loop μ-loop
-loop-less c = search needs
 
 loop-again : tie.Need-loop-again Inv-loop μ-loop
 loop-again c =
@@ -57,16 +48,6 @@ returns-2 c =
     sym (rw e at (l .loop .inv .2))
 
 pub any-changed-spec : {M : Type 1} → statement M
-any-changed-spec =
-    tie.close
-    (tie.spec
-    Inv-loop
-    μ-loop
-    loop-holds
-    add-if1
-    source-changed-requires
-    returns
-    add-k
-    loop-less
-    loop-again
-    returns-2)
+any-changed-spec {M} =
+    let answered = tie.spec {M = M} Inv-loop μ-loop loop-holds (λ c. search needs) source-changed-requires returns (λ c. search needs) in
+    tie.close (answered (λ c. search needs) loop-again returns-2)

@@ -43,23 +43,11 @@ none-left p i k h = rw (drop-of-length-le bases h)
 loop-holds : tie.Need-loop-holds Inv-loop μ-loop
 loop-holds c = (omega arith, refl)
 
-basis-at-requires : tie.Need-basis-at-requires Inv-loop μ-loop
-basis-at-requires c κs = search needs
-
-changed-requires : tie.Need-changed-requires Inv-loop μ-loop
-changed-requires c κs = search needs
-
 returns : tie.Need-returns Inv-loop μ-loop
 returns c =
     let b = c .before .before in
     sym (ap broken (b .before .before .loop .inv .1
     ∙ changed-here _ _ _ _ (b .before .loop-test .taken) (b .basis-at .ensures) (sym (c .before .changed .ensures) ∙ c .if1 .taken)))
-
-add-k : tie.Need-add-k Inv-loop μ-loop
-add-k c = search needs
-
-loop-less : tie.Need-loop-less Inv-loop μ-loop
-loop-less c = search needs
 
 loop-again : tie.Need-loop-again Inv-loop μ-loop
 loop-again c =
@@ -72,16 +60,6 @@ returns-2 : tie.Need-returns-2 Inv-loop μ-loop
 returns-2 c = sym (ap broken (c .before .loop .inv .1 ∙ none-left _ _ _ (c .loop-test .left)))
 
 pub first-changed-spec : {M : Type 1} → statement M
-first-changed-spec =
-    tie.close
-    (tie.spec
-    Inv-loop
-    μ-loop
-    loop-holds
-    basis-at-requires
-    changed-requires
-    returns
-    add-k
-    loop-less
-    loop-again
-    returns-2)
+first-changed-spec {M} =
+    let answered = tie.spec {M = M} Inv-loop μ-loop loop-holds (λ c κs. search needs) (λ c κs. search needs) returns (λ c. search needs) in
+    tie.close (answered (λ c. search needs) loop-again returns-2)

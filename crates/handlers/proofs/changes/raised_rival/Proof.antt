@@ -30,12 +30,4 @@ returns-4 c = rw (not-yet (c .before .before), sym (c .before .is-pending2 .ensu
 
 pub raised-rival-spec : {M : Type 1} → statement M
 raised-rival-spec =
-    tie.close
-    (tie.spec
-    (λ c κs. search needs)
-    returns
-    (λ c κs. search needs)
-    (λ c κs. search needs)
-    returns-2
-    returns-3
-    returns-4)
+    tie.close (tie.spec (λ c κs. search needs) returns (λ c κs. search needs) (λ c κs. search needs) returns-2 returns-3 returns-4)

@@ -6,7 +6,7 @@ use native.Mathlib.Omega.{arith}
 use borrow.Author.Needs.{needs}
 use Rattle.rules.specs.Channels.{mostRecords, listOf}
 use Rattle.rules.specs.Sources.{sources, pending}
-use Rattle.rules.specs.Waiting.{rival, countBelow}
+use Rattle.rules.specs.Demand3.{rival, countBelow}
 use Rattle.rules.specs.Handlers.{raised}
 use Rattle.rules.proofs.Counting.{count-more}
 use Rattle.channels.proofs.ItemLaws.{count-short}
@@ -26,9 +26,6 @@ loop-holds : tie.Need-loop-holds Inv-loop μ-loop
 unfolding countBelow
 loop-holds c = let s = c .before .before .before in (omega arith, count-short _ (s .good .1 .1 .1 .0) (s .pre .3), omega arith, refl)
 
-add-if1 : tie.Need-add-if1 Inv-loop μ-loop
-add-if1 c = search needs
-
 raised-rival-requires : tie.Need-raised-rival-requires Inv-loop μ-loop
 raised-rival-requires c κs =
     let s = c .before .before .before .before .before .before in
@@ -36,12 +33,6 @@ raised-rival-requires c κs =
 
 add-n : tie.Need-add-n Inv-loop μ-loop
 add-n c = omega (arith, count-more _ _ _ _ (c .before .before .before .loop .inv .3) (c .raised-rival .ensures) .0)
-
-add-k : tie.Need-add-k Inv-loop μ-loop
-add-k c = search needs
-
-loop-less : tie.Need-loop-less Inv-loop μ-loop
-loop-less c = search needs
 
 loop-again : tie.Need-loop-again Inv-loop μ-loop
 loop-again c =
@@ -58,16 +49,6 @@ returns c =
     rw e at (l .loop .inv .3)
 
 pub raised-rivals-spec : {M : Type 1} → statement M
-raised-rivals-spec =
-    tie.close
-    (tie.spec
-    Inv-loop
-    μ-loop
-    loop-holds
-    add-if1
-    raised-rival-requires
-    add-n
-    add-k
-    loop-less
-    loop-again
-    returns)
+raised-rivals-spec {M} =
+    let answered = tie.spec {M = M} Inv-loop μ-loop loop-holds (λ c. search needs) raised-rival-requires add-n (λ c. search needs) in
+    tie.close (answered (λ c. search needs) loop-again returns)

@@ -1,7 +1,7 @@
 -- The registers' verdict, by its number.
 use mathlib.Core.Path.{ap, _∙_}
 use borrow.Author.Needs.{needs}
-use Rattle.rules.specs.Answers.{toldVerdict}
+use Rattle.rules.specs.Encodings.{toldVerdict}
 use Rattle.st9.proofs.exports.st9_view_number.Statement.{statement}
 use Rattle.st9.proofs.exports.st9_view_number.Tie as tie
 
