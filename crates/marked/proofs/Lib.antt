@@ -1,1 +1,1 @@
-pub mod CompareLaws
+pub mod PassLaws
