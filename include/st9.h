@@ -166,7 +166,7 @@ enum st9_kind {
     ST9_NOT_PENDING = 19,           /* the source is not pending, */
     ST9_MASKED = 20,                /* is masked, */
     ST9_LEVEL_NOT_ABOVE = 21,       /* or its level is not above the current one */
-    ST9_OTHER_STEP = 22,            /* a step that is no trigger, arbitration or return (of st9_handler_bound: a reset): steps, its index */
+    ST9_OTHER_STEP = 22,            /* a step that is no trigger, arbitration or return and is not refused (of st9_handler_bound: a reset): steps, its index */
     ST9_INTERRUPTS_DISABLED = 23,   /* an arbitration with IEN = 0: steps, its index */
     /* or, where all hold, */
     ST9_WITHIN = 24,  /* outranking (H), triggers (E), bound (H + E + 1): acknowledged by that arbitration at the latest, if the list has so many */
@@ -225,7 +225,8 @@ st9_answer st9_wait(uint8_t *image, size_t image_length, const uint8_t *channels
 
 /*
  * Demand 3's bound for a source over the steps: by which arbitration it is acknowledged at the latest, if they have so many, or why nothing is promised.
- * Steps that are refused are passed over. The image is only read.
+ * Steps that are refused are passed over, of whatever kind they are: they change nothing and count nowhere, so that more lists have a bound than those
+ * of triggers, arbitrations and returns that demand 3 names. The image is only read.
  */
 st9_answer st9_bound(const uint8_t *image, size_t image_length, const uint8_t *channels, size_t channels_length, uint32_t source, const uint64_t *words, size_t word_count);
 

@@ -39,7 +39,7 @@ pub enum Premise {
     Masked,
     /// The source's level is not above the current one.
     LevelNotAbove,
-    /// A step that is no trigger, arbitration or return; of a handlers' bound it is a reset.
+    /// A step that is no trigger, arbitration or return and is not refused; of a handlers' bound it is a reset.
     OtherStep {
         /// Its index, from 0.
         index: usize,

@@ -64,7 +64,7 @@ pub const NOT_PENDING: u64 = 19;
 pub const MASKED: u64 = 20;
 /// A bound's premise that fails: the source's level is not above the current one.
 pub const LEVEL_NOT_ABOVE: u64 = 21;
-/// A bound's premise that fails: the step at index `steps` is no trigger, arbitration or return; of a handlers' bound it is a reset.
+/// A bound's premise that fails: the step at index `steps` is no trigger, arbitration or return and is not refused; of a handlers' bound it is a reset.
 pub const OTHER_STEP: u64 = 22;
 /// A bound's premise that fails: the arbitration at index `steps` finds IEN = 0.
 pub const INTERRUPTS_DISABLED: u64 = 23;
