@@ -3,7 +3,7 @@ use mathlib.Core.Path.{_≡_, refl, sym, ap, _∙_}
 use mathlib.Core.Logic.{_≢_}
 use mathlib.Core.Bool.{Bool, true, false, false≢true, cond, not, _&&_}
 use mathlib.Core.List.{List, []}
-use mathlib.Core.Option.{Option, none, some, Option·getD}
+use mathlib.Core.Option.{Option, none, some, Option·getD, orElse}
 use Prim.Native.Nat.{ℕ, _+_, _≤_, _<_}
 use native.Mathlib.Nat.{add-zero, zero-add}
 use native.Mathlib.Omega.{arith}
@@ -191,7 +191,7 @@ followed-start m cs s es = rw zero-add
 module _ (cs : List Channel) (source : ℕ) (among : ℕ → Bool) (h e : ℕ) where
   -- after the last step: the bound
   pub followed-end : (s : State) (n : ℕ) {ys : List Step} → ys ≡ [] → followedFrom cs source among h n e (upTo source (history s cs ys)) ≡ bounded.Within h e (h + e + 1)
-  unfolding followedFrom history until firstBroken counted raisedOf
+  unfolding followedFrom history until firstBroken orElse counted raisedOf
   followed-end s n q = rw (q, add-zero)
 
   module _ {s t : State} {ys xs : List Step} {x : Step} {a : Answer} (next : Next s t cs ys xs x a) (n : ℕ) where
@@ -200,18 +200,18 @@ module _ (cs : List Channel) (source : ℕ) (among : ℕ → Bool) (h e : ℕ) w
 
     -- a step that breaks a premise is answered at once
     pub followed-broken : (b : Bounded) → brokenBy cs source event n ≡ some b → followedFrom cs source among h n e (upTo source (history s cs ys)) ≡ b
-    unfolding followedFrom until firstBroken
+    unfolding followedFrom until firstBroken orElse
     followed-broken b p = rw (history-next next, p)
 
     module _ (unbroken : brokenBy cs source event n ≡ none) where
       -- else what it triggers and raises is counted, and it is the last where it acknowledges ours
       pub followed-last : eventAcknowledges source event ≡ true
           → followedFrom cs source among h n e (upTo source (history s cs ys)) ≡ bounded.Within h (e + more cs among event) (h + (e + more cs among event) + 1)
-      unfolding followedFrom until firstBroken counted raisedOf
+      unfolding followedFrom until firstBroken orElse counted raisedOf
       followed-last k = rw (history-next next, k, unbroken) (ap (λ (n : ℕ). bounded.Within h n (h + n + 1)) (omega arith))
 
       pub followed-on : eventAcknowledges source event ≡ false
           → followedFrom cs source among h n e (upTo source (history s cs ys))
           ≡ followedFrom cs source among h (n + 1) (e + more cs among event) (upTo source (history t cs xs))
-      unfolding followedFrom until firstBroken counted raisedOf
+      unfolding followedFrom until firstBroken orElse counted raisedOf
       followed-on k = rw (history-next next, k, unbroken) (ap (λ (e : ℕ). Option·getD (firstBroken cs source (n + 1) (upTo source (history t cs xs))) (bounding h e)) (omega arith))

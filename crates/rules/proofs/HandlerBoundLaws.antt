@@ -3,7 +3,7 @@ use mathlib.Core.Path.{_≡_, refl, sym, _∙_, subst}
 use mathlib.Core.Logic.{_⊎_, inl, inr}
 use mathlib.Core.List.{List, [], _∷_}
 use mathlib.Core.Bool.{Bool, true, false, cond}
-use mathlib.Core.Option.{Option, none, some, Option·getD}
+use mathlib.Core.Option.{Option, none, some, orElse, Option·getD}
 use Prim.Native.Nat.{ℕ, suc, _+_, _≤_}
 use native.Mathlib.Omega.{arith}
 use lib.ListN.{take, drop}
@@ -16,10 +16,10 @@ use Rattle.rules.specs.declared.Bounded.the-variants as bounded
 use Rattle.rules.specs.Image.{Image, has, IEN}
 use Rattle.rules.specs.Outcomes.{state}
 use Rattle.rules.specs.Runs.{Event, history, eventRefused, isArbitration, eventAcknowledges, waitVerdict}
-use Rattle.rules.specs.Demand3.{rival, H, Start}
-use Rattle.rules.specs.Handlers.{isWrite, EAndRaised, MayDo, May, Enabled, Handles, upTo}
+use Rattle.rules.specs.Demand3.{Enabled, rival, H, Start}
+use Rattle.rules.specs.Handlers.{isWrite, EAndRaised, MayDo, May, Handles, upTo}
 use Rattle.rules.specs.Bounds.{disabledStep, boundOf, BoundSays, bounding}
-use Rattle.rules.specs.HandlerBounds.{changes, bases, firstChanged, brokenStep, brokenBy, orLater, firstBroken, handlerBoundIn, handlerBoundOf, HandlerBoundSays}
+use Rattle.rules.specs.HandlerBounds.{changes, bases, firstChanged, brokenStep, brokenBy, firstBroken, handlerBoundIn, handlerBoundOf, HandlerBoundSays}
 use Rattle.rules.specs.Encodings.{stepsOf}
 use Rattle.rules.specs.Promises.{HandlerBoundNotAbove, HandlerBoundWaits}
 use Rattle.rules.proofs.Verdicts.{verdict-elim}
@@ -96,11 +96,11 @@ module _ (cs : List Channel) (s : ℕ) where
       (n : ℕ) × (e : Event) × (rest : List Event) × (drop n es ≡ (e ∷ rest)) × Handles cs s (take n es) × EventBreaks e (i + n) (some b)
 
   list-breaks : (es : List Event) (i : ℕ) → ListBreaks es i (firstBroken cs s i es)
-  unfolding firstBroken
+  unfolding firstBroken orElse
   list-breaks [] i = tt
   list-breaks (e ∷ es) i = go (brokenBy cs s e i) (firstBroken cs s (i + 1) es) (event-breaks e i) (list-breaks es (i + 1))
     where
-      go : (o p : Option Bounded) → EventBreaks e i o → ListBreaks es (i + 1) p → ListBreaks (e ∷ es) i (orLater o p)
+      go : (o p : Option Bounded) → EventBreaks e i o → ListBreaks es (i + 1) p → ListBreaks (e ∷ es) i (orElse o p)
       go (some b) p f g = let z : i + 0 ≡ i = omega arith in (0, e, es, refl, tt, rw z f)
       go none none f g = (f .0, f .1, g)
       go none (some b) f g =
@@ -114,7 +114,7 @@ module _ (cs : List Channel) (s : ℕ) where
       go (some b) f = absurd (f .0 h)
 
   handles-none : (es : List Event) (i : ℕ) → Handles cs s es → firstBroken cs s i es ≡ none
-  unfolding firstBroken
+  unfolding firstBroken orElse
   handles-none [] i h = refl
   handles-none (e ∷ es) i h = rw (meets-none e i (h .0, h .1)) (handles-none es (i + 1) (h .2))
 

@@ -2,6 +2,7 @@
 -- answered of steps that its premises forbid. Assumes nothing.
 use mathlib.Core.Path.{_≡_, refl}
 use mathlib.Core.Bool.{true, false}
+use mathlib.Core.Option.{orElse}
 use mathlib.Core.List.{List, [], _∷_, map}
 use Prim.Native.Nat.{_+_, _*_}
 use lib.ListN.{take}
@@ -56,7 +57,7 @@ pub handlers-tight :
     × (H start channels ours + E start channels ours events ≡ 2)
     × (arbitrationsIn (take 17 events) ≡ 5) × (acknowledgedIn ours (take 17 events) ≡ false)
     × (arbitrationsIn events ≡ 6) × (acknowledgedIn ours events ≡ true)
-unfolding start image digit bit putBit pageByte put idcrByte ivrByte dcprByte daprByte dataByte recordsOk member distinct allBytes listOk sources pendingBit pending unmasked dmaEnabled externalLevel level triggerVerdict selects selectsTop sourceEffect raiseSource topEffect raiseTop fired triggerOf requestOf eligible isAt wonBy candidate first winnerOfKind winnerAtLevel winnerOf vectorOf cleared acknowledged granted topLevel arbitrateOf returned returnOf lentVerdict actOf stepOf history outranks rival countBelow pendingOf anyEvent counted until rows existingBits pageZero recordPlace recordsPlace placeOf readOf storedByte lostBits writeAt writeOf raised raisedOf anyBelow changes firstChanged brokenStep brokenBy firstBroken calmPremises sourcePremises waitVerdict handlerBoundIn handlerBoundOf
+unfolding start image digit bit putBit pageByte put idcrByte ivrByte dcprByte daprByte dataByte recordsOk member distinct allBytes listOk sources pendingBit pending unmasked dmaEnabled externalLevel level triggerVerdict selects selectsTop sourceEffect raiseSource topEffect raiseTop fired triggerOf requestOf eligible isAt wonBy candidate first winnerOfKind winnerAtLevel winnerOf vectorOf cleared acknowledged granted topLevel arbitrateOf returned returnOf lentVerdict actOf stepOf history outranks rival countBelow pendingOf anyEvent counted until rows existingBits pageZero recordPlace recordsPlace placeOf readOf storedByte lostBits writeAt writeOf raised raisedOf anyBelow changes firstChanged brokenStep brokenBy orElse firstBroken calmPremises sourcePremises waitVerdict handlerBoundIn handlerBoundOf
 handlers-tight =
     let bound : handlerBoundOf (state start) channels ours steps ≡ bounded.Within 1 4 6 = refl in
     let p = handler-premises start channels ours steps 1 4 6 bound in
@@ -83,5 +84,5 @@ pub changed-answers :
     ∷ bounded.Changed basis.DmaEnable 1 ∷ bounded.Changed basis.Level 1
     ∷ bounded.OtherStep 0 ∷ bounded.InterruptsDisabled 1
     ∷ bounded.Changed basis.Mode 0 ∷ bounded.Changed basis.Mask 1 ∷ bounded.Within 1 0 2 ∷ [])
-unfolding start image digit bit putBit pageByte put idcrByte ivrByte dcprByte daprByte dataByte recordsOk member distinct allBytes listOk sources pendingBit pending unmasked dmaEnabled externalLevel level triggerVerdict selects selectsTop sourceEffect raiseSource topEffect raiseTop fired triggerOf requestOf eligible isAt wonBy candidate first winnerOfKind winnerAtLevel winnerOf vectorOf cleared acknowledged granted topLevel arbitrateOf returned returnOf lentVerdict actOf stepOf history outranks rival countBelow pendingOf anyEvent counted until rows existingBits pageZero recordPlace recordsPlace placeOf readOf storedByte lostBits writeAt writeOf raised raisedOf anyBelow changes firstChanged brokenStep brokenBy firstBroken calmPremises sourcePremises waitVerdict handlerBoundIn handlerBoundOf rowPlace resetByte resetRow resetRows resetOf
+unfolding start image digit bit putBit pageByte put idcrByte ivrByte dcprByte daprByte dataByte recordsOk member distinct allBytes listOk sources pendingBit pending unmasked dmaEnabled externalLevel level triggerVerdict selects selectsTop sourceEffect raiseSource topEffect raiseTop fired triggerOf requestOf eligible isAt wonBy candidate first winnerOfKind winnerAtLevel winnerOf vectorOf cleared acknowledged granted topLevel arbitrateOf returned returnOf lentVerdict actOf stepOf history outranks rival countBelow pendingOf anyEvent counted until rows existingBits pageZero recordPlace recordsPlace placeOf readOf storedByte lostBits writeAt writeOf raised raisedOf anyBelow changes firstChanged brokenStep brokenBy orElse firstBroken calmPremises sourcePremises waitVerdict handlerBoundIn handlerBoundOf rowPlace resetByte resetRow resetRows resetOf
 changed-answers = refl

@@ -6,7 +6,8 @@ use mathlib.Core.List.{List, [], _∷_, _++_}
 use Prim.Native.Nat.{ℕ, _+_}
 use native.Mathlib.Omega.{arith}
 use lib.Dec.{lit<}
-use lib.ListN.{take, drop}
+use lib.ListN.{length, take, drop}
+use lib.Seq.{take-length}
 use Rattle.bits.specs.Bits.{digit, bit, putBit}
 use Rattle.bits.proofs.Tests.{passes, fails}
 use Rattle.rules.specs.declared.Channel.{Channel}
@@ -88,13 +89,11 @@ pub tight : Start start channels ours × OnlyCalls events × (H start channels o
 unfolding start image digit bit putBit pageByte put idcrByte ivrByte dcprByte daprByte dataByte recordsOk member distinct allBytes listOk sources pendingBit pending unmasked dmaEnabled externalLevel level triggerVerdict selects selectsTop sourceEffect raiseSource topEffect raiseTop fired triggerOf requestOf eligible isAt wonBy candidate first winnerOfKind winnerAtLevel winnerOf vectorOf cleared acknowledged granted topLevel arbitrateOf returned returnOf lentVerdict actOf stepOf history outranks rival countBelow pendingOf anyEvent counted
 tight = (starts, none-calls events refl refl, refl, refl, refl, refl, refl, refl)
 
-fifth : arbitrationsIn (take 16 events) ≡ 5
-unfolding start image digit bit putBit pageByte put idcrByte ivrByte dcprByte daprByte dataByte recordsOk member distinct allBytes listOk sources pendingBit pending unmasked dmaEnabled externalLevel level triggerVerdict selects selectsTop sourceEffect raiseSource topEffect raiseTop fired triggerOf requestOf eligible isAt wonBy candidate first winnerOfKind winnerAtLevel winnerOf vectorOf cleared acknowledged granted topLevel arbitrateOf returned returnOf lentVerdict actOf stepOf history outranks rival countBelow pendingOf anyEvent counted
-fifth = refl
-
--- and demand 3 promises no later one: ours is acknowledged by the fifth arbitration, which the first sixteen calls have
-pub demand3-tight : acknowledgedIn ours (take 16 events) ≡ true
-demand3-tight = demand3 (state start) channels ours steps (tight .0) (tight .1) 16 .0 (omega (arith, tight .2, tight .3, fifth))
+-- and demand 3 promises no later one: the list has no sixth
+pub demand3-tight : acknowledgedIn ours events ≡ true
+demand3-tight =
+    rw (take-length events) at (demand3 (state start) channels ours steps (tight .0) (tight .1) (length events) .0)
+    (omega (arith, tight .2, tight .3, tight .6))
 
 -- the bound that is answered for it is H + E + 1
 pub bound-tight : boundOf (state start) channels ours steps ≡ bounded.Within 2 2 5

@@ -48,12 +48,16 @@ isCall step.Return = true
 isCall step.Reset = false
 isCall step.Unknown = false
 
+-- if an event is an arbitration, interrupts are enabled, on the image that it gets
+abbrev pub Enabled : Event → Type 0
+Enabled e = isArbitration (e .step) ≡ true → has (e .before .image) IEN ≡ true
+
 -- "Then take every list of triggers, arbitrations and returns, refused ones included, with interrupts enabled at each arbitration. A refused one changes
--- nothing and counts nowhere." A refused step may be of any kind, which admits more lists than the sentence. An arbitration must get IEN = 1; this is asked of
--- refused ones too, but only a DMA winner is refused, and under `Calm` there is none
+-- nothing and counts nowhere." A refused step may be of any kind, which admits more lists than the sentence. `Enabled` is asked of refused
+-- arbitrations too, but only a DMA winner is refused, and under `Calm` there is none
 abbrev pub OnlyCalls : List Event → Type 0
 OnlyCalls [] = Unit {0}
-OnlyCalls (e ∷ es) = (eventRefused e ≡ false → isCall (e .step) ≡ true) × (isArbitration (e .step) ≡ true → has (e .before .image) IEN ≡ true) × OnlyCalls es
+OnlyCalls (e ∷ es) = (eventRefused e ≡ false → isCall (e .step) ≡ true) × Enabled e × OnlyCalls es
 
 -- ---- H: "Let H be the number of unmasked sources outranking ours that are pending at the start,"
 

@@ -3,7 +3,7 @@
 use mathlib.Core.Path.{_≡_}
 use mathlib.Core.Bool.{Bool, cond, not, _&&_, _||_}
 use mathlib.Core.List.{List, [], _∷_}
-use mathlib.Core.Option.{Option, none, some, Option·getD}
+use mathlib.Core.Option.{Option, none, some, orElse, Option·getD}
 use Prim.Native.Nat.{ℕ, _+_}
 use lib.Dec.{eqb}
 use Rattle.rules.specs.declared.Channel.{Channel}
@@ -64,15 +64,10 @@ brokenBy cs ours e index =
     cond (disabledStep e) (some (bounded.InterruptsDisabled index))
     (cond (eventRefused e) none (brokenStep cs ours (e .before .image) (e .step) (e .outcome .left .image) index))
 
--- the first of two answers that there is
-abbrev pub orLater : Option Bounded → Option Bounded → Option Bounded
-orLater (some answered) later = some answered
-orLater none later = later
-
 -- what the first event that breaks a premise breaks, where the events start at this index
 unfoldable pub firstBroken : List Channel → ℕ → ℕ → List Event → Option Bounded
 firstBroken cs ours index [] = none
-firstBroken cs ours index (e ∷ es) = orLater (brokenBy cs ours e index) (firstBroken cs ours (index + 1) es)
+firstBroken cs ours index (e ∷ es) = orElse (brokenBy cs ours e index) (firstBroken cs ours (index + 1) es)
 
 -- what is answered of the events until ours is acknowledged: the first premise that one breaks, or the bound
 unfoldable pub handlerBoundIn : Image → List Channel → ℕ → List Event → Bounded

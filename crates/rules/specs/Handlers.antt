@@ -11,8 +11,8 @@ use Rattle.rules.specs.declared.Step.the-variants as step
 use Rattle.rules.specs.Image.{Image, has, CPL, IAM, IEN, TLI, TLNM}
 use Rattle.rules.specs.Outcomes.{State}
 use Rattle.rules.specs.Sources.{sources, pending, unmasked, dmaEnabled, level}
-use Rattle.rules.specs.Runs.{Event, history, until, counted, eventRefused, isArbitration, madeArbitration, eventAcknowledges, acknowledgedIn}
-use Rattle.rules.specs.Demand3.{rival, countBelow, H, E, Start, InTime, Kept}
+use Rattle.rules.specs.Runs.{Event, history, until, counted, eventRefused, madeArbitration, eventAcknowledges, acknowledgedIn}
+use Rattle.rules.specs.Demand3.{rival, countBelow, H, E, Start, Enabled, InTime, Kept}
 
 -- ---- what a write must not change
 
@@ -81,10 +81,6 @@ MayDo cs ours before step.Unknown after = ⊥
 -- an event is such a step if it isn't refused
 abbrev pub May : List Channel → ℕ → Event → Type 0
 May cs ours e = eventRefused e ≡ false → MayDo cs ours (e .before .image) (e .step) (e .outcome .left .image)
-
--- if it is an arbitration, interrupts are enabled, on the image that it gets
-abbrev pub Enabled : Event → Type 0
-Enabled e = isArbitration (e .step) ≡ true → has (e .before .image) IEN ≡ true
 
 -- each event is such a step
 abbrev pub AllMay : List Channel → ℕ → List Event → Type 0
