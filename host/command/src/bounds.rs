@@ -75,16 +75,15 @@ impl Claim {
         }
     }
 
-    /// What H and E count.
-    fn counted(self) -> &'static str {
-        match self {
-            Claim::Demand3 => {
-                "H: unmasked outranking sources pending at the start, E: triggers of such in the list"
-            }
+    /// What H and E count, a line each.
+    fn counted(self) -> [&'static str; 2] {
+        let triggers = match self {
+            Claim::Demand3 => "E: triggers of such in the list",
             Claim::Handlers => {
-                "H: unmasked outranking sources pending at the start, E: triggers of such and bits of theirs that writes raise, up to the acknowledgement"
+                "E: triggers of such and bits of theirs that writes raise, up to the acknowledgement"
             }
-        }
+        };
+        ["H: unmasked outranking sources pending at the start", triggers]
     }
 
     /// A premise of its own, without the step.
@@ -140,10 +139,10 @@ impl Claimed {
             Premise::Changed { basis, .. } => format!("the write{place} {}", change(basis)),
             _ => format!("{}{place}", self.claim.premise(premise)),
         };
-        format!("none, as a premise fails: {premise}")
+        format!("none: {premise}")
     }
 
-    /// The same with the claim and what H and E are.
+    /// The same with the claim and how many arbitrations the list has.
     pub fn explained(self, list: List) -> String {
         self.explained_beside(None, list)
     }
@@ -153,12 +152,9 @@ impl Claimed {
         let (words, claim) = (self.words(list), self.claim.name());
         match (self.bound, beside) {
             (Bound::Within { .. }, beside) => {
-                let beside = beside.map_or(String::new(), |beside| format!("{beside}; "));
-                let counted = self.claim.counted();
+                let beside = beside.map_or(String::new(), |beside| format!("; {beside}"));
                 let has = list.arbitrations();
-                format!(
-                    "{words} ({claim}, if the list has so many: it has {has}; {beside}{counted})"
-                )
+                format!("{words} ({claim}, if the list has so many: it has {has}{beside})")
             }
             (Bound::Fails(_), Some(beside)) => format!("{words} ({claim}; {beside})"),
             (Bound::Fails(_), None) => words,
@@ -210,7 +206,13 @@ impl Bounds {
         }
     }
 
-    /// The same with what H and E are, and why demand 3 does not speak.
+    /// What H and E count, a line each, where the one that is told is a bound.
+    pub fn counted(self) -> Option<[&'static str; 2]> {
+        let told = self.told();
+        matches!(told.bound, Bound::Within { .. }).then(|| told.claim.counted())
+    }
+
+    /// The same as `words` with how many arbitrations the list has, and why demand 3 does not speak.
     pub fn explained(self, list: List) -> String {
         let told = self.told();
         let beside = match (told.claim, self.demand3) {

@@ -514,18 +514,19 @@ mod tests {
             ("refused 3", "refused with 3 (register read)"),
             ("refused 3 step 2 after 1", "refused with 3 at step 2, after 1 arbitration (line 4)"),
             ("by 3 H 1 E 1", "by arbitration 3 at the latest, H 1, E 1 (H: x)"),
+            ("none: masked", "none: the source is masked"),
             ("none: masked", "none, as a premise fails: the source is masked"),
             (
                 "none: other step at step 1",
-                "none, as a premise fails: a step that is no trigger, arbitration or return at step 1 (line 8: read CICR)",
+                "none: a step that is no trigger, arbitration or return at step 1 (line 8: read CICR)",
             ),
             (
                 "none: other step at step 1",
-                "none, as a premise fails: a reset at step 1 (line 8: reset)",
+                "none: a reset at step 1 (line 8: reset)",
             ),
             (
                 "none: erased at step 4",
-                "none, as a premise fails: the write at step 4 (line 16: write EIPR 00h) erases the source's pending bit (the handlers' claim; demand 3 does not speak of step 3 (line 15: read EIPR))",
+                "none: the write at step 4 (line 16: write EIPR 00h) erases the source's pending bit (the handlers' claim; demand 3 does not speak of step 3 (line 15: read EIPR))",
             ),
             ("done 2 last none", "done: 2 steps, last answer: none (nothing is pending)"),
             ("never", "not acknowledged"),

@@ -2,8 +2,8 @@
 
 use crate::output::{Outcome, Output};
 use scenario::{
-    changes, counted, note, refused, refused_json, Account, Bit, CallReport, Case, Comparison, End,
-    Event, Followed, Loss, Names, Object, Report, Row, Stored,
+    changes, counted, folded, note, refused, refused_json, Account, Bit, CallReport, Case,
+    Comparison, End, Event, Followed, Loss, Names, Object, Report, Row, Stored,
 };
 
 /// How a case is printed.
@@ -76,10 +76,8 @@ impl Printer<'_> {
             return;
         }
         let width = self.width();
-        self.line(
-            || format!("{:width$}  {:<20}  {}", "", report.statement(), report.words()),
-            || report.json().join("\n"),
-        );
+        let start = || format!("{:width$}  {:<20}  ", "", report.statement());
+        self.line(|| folded(&start(), &report.words()), || report.json().join("\n"));
     }
 
     fn compared(&mut self, comparison: &Comparison) {

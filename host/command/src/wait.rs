@@ -8,8 +8,8 @@ use crate::print::{print_note, print_rows, print_title};
 use crate::progress::Progress;
 use crate::save::Saved;
 use scenario::{
-    bound_json, follow, note, refused, waited_json, waited_words, Account, Bit, Bounds, Case,
-    Claim, List, Loss, Names, Object, Proved, Row,
+    bound_json, folded, follow, note, refused, waited_json, waited_words, Account, Bit, Bounds,
+    Case, Claim, List, Loss, Names, Object, Proved, Row,
 };
 use st9::{Bound, Premise, Refusal, Source, Wait, WaitError};
 use std::ffi::OsStr;
@@ -66,6 +66,9 @@ fn sources(case: &Case) -> Vec<Source> {
     (0..8 + records).map(Source).collect()
 }
 
+/// The start of the line of a bound.
+const BOUND: &str = "bound  ";
+
 /// The wait report and the bounds of a source.
 struct Report {
     source: Source,
@@ -96,11 +99,17 @@ impl Report {
             Err(refusal) => refused(refusal),
         };
         let later = if self.is_raised_later() {
-            format!(" at the start (a `bound {source}` in the scenario, after it is raised, asks from there)")
+            let source = self.source.to_string();
+            let name = case.names.of(self.source).unwrap_or(&source);
+            format!(" at the start (`bound {name}` in the scenario, after it is raised, asks from there)")
         } else {
             String::new()
         };
-        output.line(&format!("bound: {bound}{later}"));
+        output.line(&folded(BOUND, &format!("{bound}{later}")));
+        let counted = self.bounds.ok().and_then(Bounds::counted);
+        for line in counted.into_iter().flatten() {
+            output.line(&format!("{:1$}{line}", "", BOUND.len()));
+        }
     }
 
     /// Whether the source gets no bound because it is not pending at the start, and is acknowledged all the same.

@@ -1,4 +1,4 @@
-//! What README.md and docs/GUIDE.md show is what the command prints.
+//! What README.md and docs/GUIDE.md show is what the command prints, and a reader gets from README to every document.
 
 mod support;
 
@@ -19,63 +19,82 @@ fn block(document: &str, start: &str) -> String {
     let from = document.find(&format!("    {start}")).expect("the block is there");
     let inside = |line: &&str| line.starts_with("    ") || line.is_empty();
     let lines = document[from..].lines().take_while(inside);
-    let text: String = lines.map(|line| format!("{}\n", line.trim_start_matches("    "))).collect();
+    let bare = |line: &str| format!("{}\n", line.strip_prefix("    ").unwrap_or_default());
+    let text: String = lines.map(bare).collect();
     format!("{}\n", text.trim_end())
+}
+
+#[test]
+fn readme_is_short() {
+    let readme = document("README.md");
+    assert!(readme.lines().count() <= 100);
+    let long = readme.lines().find(|line| line.chars().count() > 120);
+    assert_eq!(long, None);
+}
+
+/// Every document is named in README, and opens with whom it is for.
+#[test]
+fn readme_leads_to_every_document() {
+    let readme = document("README.md");
+    let files = fs::read_dir(root().join("docs")).expect("docs/");
+    let names = files.map(|file| file.expect("a file").file_name().into_string().expect("a name"));
+    let mut documents = 0;
+    for name in names.map(|name| format!("docs/{name}")) {
+        assert!(readme.contains(&name), "{name}");
+        if name.ends_with(".md") {
+            let text = document(&name);
+            let opening = text.lines().skip(1).find(|line| !line.is_empty());
+            let opening = opening.expect("a first sentence");
+            assert!(opening.starts_with("For "), "{name}: {opening}");
+            documents += 1;
+        }
+    }
+    assert_eq!(documents, 6);
+}
+
+/// The time is that which the script tells a caller who waits.
+#[test]
+fn readme_tells_how_long_the_build_takes() {
+    let script = document("st9");
+    let line = script.lines().find_map(|line| line.strip_prefix("build_time="));
+    let time = line.expect("the time").trim_matches('"');
+    assert!(document("README.md").replace('\n', " ").contains(time), "{time}");
 }
 
 #[test]
 fn readme_shows_the_march_incident() {
     let readme = document("README.md");
-    for name in ["march", "own-bit"] {
-        let file = format!("examples/{name}.st9");
-        let out = st9_in(&root(), &["run", &file], b"").with_code(0).out;
-        assert!(readme.contains(&format!("./st9 run {file}")), "{name}");
-        assert!(readme.contains(&shown(&out)), "{name}");
-    }
-}
-
-/// No option hides it.
-#[test]
-fn readme_shows_that_the_march_incident_fails() {
-    let readme = document("README.md");
-    let arguments = "run examples/march.st9 --quiet --fail-on erased";
-    let words: Vec<_> = arguments.split(' ').collect();
-    let out = st9_in(&root(), &words, b"").with_code(3).out;
-    assert!(readme.contains(&format!("./st9 {arguments}")));
+    let run = ["run", "examples/march.st9"];
+    let out = st9_in(&root(), &run, b"").with_code(0).out;
+    assert!(readme.contains("./st9 run examples/march.st9"));
     assert!(readme.contains(&shown(&out)), "{out}");
+    st9_in(&root(), &[&run[..], &["--fail-on", "erased"]].concat(), b"").with_code(3);
 }
 
 #[test]
-fn readme_shows_the_reviewers_cases() {
+fn readme_shows_a_case_of_ones_own() {
     let readme = document("README.md");
-    let out = st9_in(&root(), &["test", "examples/reviewer.st9"], b"").with_code(0).out;
-    assert!(readme.contains("./st9 test examples/reviewer.st9"));
-    assert!(readme.contains(&shown(&out)), "{out}");
+    let folder = folder("readme");
+    fs::write(folder.join("fan.st9"), block(&readme, "image zero  ")).expect("a scenario");
+    let ran = st9_in(&folder, &["test", "fan.st9"], b"").with_code(3);
+    let unmet = ran.out.lines().find(|line| line.contains("expected")).expect("what is not met");
+    assert!(readme.contains("./st9 test fan.st9"));
+    assert!(readme.contains(&shown(unmet.trim_start())), "{unmet}");
 }
 
 #[test]
-fn readme_shows_the_reviewers_questions() {
+fn readme_answers_the_reviewers_questions() {
     let readme = document("README.md");
-    let out = st9_in(&root(), &["run", "cases/alarms.st9"], b"").with_code(0).out;
-    assert!(readme.contains("./st9 run cases/alarms.st9"));
-    let own_bit = "   wait INTC0            acknowledged by arbitration 1 at step 7";
-    let erased = "   bound INTC0           none, as a premise fails: the write at step 3";
-    for start in [own_bit, erased, "case both pending;"] {
+    let own_bit = ["run", "examples/own-bit.st9"];
+    let bound = ["wait", "examples/bound.st9", "--source", "INTC0"];
+    let blocks =
+        [(&own_bit[..], "   bound INTC0           by arbitration"), (&bound[..], "wait for INTC0")];
+    for (arguments, start) in blocks {
+        let out = st9_in(&root(), arguments, b"").with_code(0).out;
         let block = block(&readme, start);
-        assert!(out.contains(&block), "{block}");
+        assert!(readme.contains(&format!("./st9 {}", arguments.join(" "))), "{arguments:?}");
+        assert!(block.lines().count() > 1 && out.contains(&block), "{block}");
     }
-}
-
-#[test]
-fn readme_counts_the_cases() {
-    let readme = document("README.md");
-    let out = st9_in(&root(), &["test", "cases"], b"").with_code(0).out;
-    let numbers: Vec<_> =
-        out.split(|end: char| !end.is_ascii_digit()).filter(|n| !n.is_empty()).collect();
-    let [cases, _, _, expectations, ..] = numbers[..] else { panic!("{out}") };
-    let (thousands, rest) = expectations.split_at(expectations.len() - 3);
-    let counted = format!("{cases} cases with {thousands},{rest} expectations");
-    assert!(readme.contains(&counted), "{counted}");
 }
 
 #[test]
@@ -84,26 +103,19 @@ fn guide_shows_its_scenario() {
     let scenario = block(&guide, "image zero  ");
     let ran = st9(&["run", "-"], &scenario).with_code(0);
     assert!(guide.contains(&shown(&ran.out)), "{}", ran.out);
-    let wait = ["wait", "-", "--source", "FAN"];
-    let waited = st9(&wait, &scenario).with_code(0);
-    assert!(guide.contains(&shown(&waited.out)), "{}", waited.out);
-    let ends = "return                      # the handler ends";
-    for handler in ["write EIPR 00h", &format!("read EIPR\nwrite EIPR 10h\n{ends}")] {
-        let waited = st9(&wait, &scenario.replace(ends, handler)).with_code(0);
-        let bound = waited.out.lines().find(|line| line.starts_with("bound"));
-        let bound = bound.expect("a bound's line");
-        assert!(guide.contains(&shown(bound)), "{bound}");
-    }
+    let too_much = scenario.replace("write EIPR 10h", "write EIPR 00h");
+    let ran = st9(&["run", "-"], &too_much).with_code(0);
+    let block = block(&guide, "    bound INTC0 (FAN)     none");
+    assert!(block.lines().count() == 2 && ran.out.contains(&block), "{}", ran.out);
 }
 
 #[test]
-fn guide_shows_the_march_incident() {
+fn guide_shows_a_wait() {
     let guide = document("docs/GUIDE.md");
-    let out = st9_in(&root(), &["run", "examples/march.st9"], b"").with_code(0).out;
-    for start in ["4  write EIPR", "account  INTB0"] {
-        let block = block(&guide, start);
-        assert!(out.contains(&block), "{block}");
-    }
+    let arguments = ["wait", "examples/bound.st9", "--source", "INTC0"];
+    let out = st9_in(&root(), &arguments, b"").with_code(0).out;
+    assert!(guide.contains(&format!("./st9 {}", arguments.join(" "))));
+    assert!(guide.contains(&shown(&out)), "{out}");
 }
 
 #[test]

@@ -261,7 +261,7 @@ fn changes_that_came_are_met() {
     }
 }
 
-/// A bound's line, which tells what both claims say, is met as it stands.
+/// A bound's line, which tells what both claims say, is met as it stands, without the explanation that may stand below.
 #[test]
 fn printed_lines_of_bounds_are_met() {
     let mut random = Random(0x0915_0105);
@@ -277,7 +277,7 @@ fn printed_lines_of_bounds_are_met() {
         let ran = st9(&["run", "-"], &with(&statements)).with_code(0);
         let line = ran.out.lines().find(|line| line.contains("bound INT")).expect("its line");
         let (_, words) = line.split_once(&source).expect("its words");
-        both += usize::from(words.contains("the handlers' claim; demand 3"));
+        both += usize::from(ran.out.contains("(the handlers' claim; demand 3"));
         statements.insert(at + 1, format!("expect {words}"));
         st9(&["run", "-"], &with(&statements)).with_code(0);
     }

@@ -150,7 +150,7 @@ fn pages_that_are_not_there() {
 fn waits() {
     let before = |source: &str, number| {
         let words = words(number);
-        format!("wait for {source}: {words}, before any step\nbound: {words}\n")
+        format!("wait for {source}: {words}, before any step\nbound  {words}\n")
     };
     let none = "image zero\narbitrate\n";
     let ran = st9(&["wait", "-", "--source", "CH0"], none).with_code(1);
@@ -167,6 +167,6 @@ fn waits() {
     let ran = st9(&["wait", "-", "--source", "INTB1"], midway).with_code(1);
     let refusal = Refusal::Register;
     let refused = format!("refused with 3 at step 2, after 1 arbitration (line 4: {refusal})");
-    let bound = "none, as a premise fails: the source is not pending";
-    assert_eq!(ran.out, format!("wait for INTB1 (source 3): {refused}\nbound: {bound}\n"));
+    let bound = "none: the source is not pending";
+    assert_eq!(ran.out, format!("wait for INTB1 (source 3): {refused}\nbound  {bound}\n"));
 }

@@ -294,8 +294,16 @@ fn waits_have_the_titles_of_their_cases() {
     let scenario =
         format!("{START}case first\nedge INTB0 falling\narbitrate\ncase second\narbitrate\n");
     let ran = st9(&["wait", "-", "--source", "INTB0"], &scenario).with_code(0);
-    let starts =
-        ["case first", "wait for INTB0", "bound: ", "", "case second", "wait for INTB0", "bound: "];
+    let starts = [
+        "case first",
+        "wait for INTB0",
+        "bound  ",
+        "       (`bound INTB0`",
+        "",
+        "case second",
+        "wait for INTB0",
+        "bound  ",
+    ];
     assert_eq!(ran.out.lines().count(), starts.len(), "{}", ran.out);
     assert!(
         ran.out.lines().zip(starts).all(|(line, start)| line.starts_with(start)),

@@ -16,9 +16,14 @@ fn assert_report(scenario: &str, waited: &str, bound: &str) {
     let waited = waited.replace("line N", &format!("line {first}"));
     let has = scenario.lines().filter(|line| *line == "arbitrate").count();
     let bound = bound.replace("it has N", &format!("it has {has}"));
-    let expected = format!("wait for INTB0 (source 2): {waited}\nbound: {bound}\n");
-    assert_eq!(ran.out, expected, "{scenario}");
+    let expected = format!("wait for INTB0 (source 2): {waited}\nbound  {bound}\n");
+    assert_eq!(unfolded(&ran.out), expected, "{scenario}");
     assert_eq!(ran.err, "");
+}
+
+/// What stands below the line of a bound, in that line.
+fn unfolded(out: &str) -> String {
+    out.replace("\n       ", " ")
 }
 
 const FIRST: &str = "acknowledged by arbitration 1 at step 0 (line N)";
@@ -39,7 +44,7 @@ fn premises_of_the_start() {
     ];
     for (set, waited, premise) in cases {
         let scenario = format!("{START}{set}arbitrate\n");
-        assert_report(&scenario, waited, &format!("none, as a premise fails: {premise}"));
+        assert_report(&scenario, waited, &format!("none: {premise}"));
     }
 }
 
@@ -76,20 +81,22 @@ fn premises_of_the_steps() {
     ];
     for (steps, premise, beside) in cases {
         let scenario = format!("{START}{steps}");
-        let bound = format!("none, as a premise fails: {premise} {beside}");
+        let bound = format!("none: {premise} {beside}");
         let ran = st9(&["wait", "-", "--source", "INTB0"], &scenario).with_code(0);
-        let line = ran.out.lines().nth(1);
-        assert_eq!(line, Some(&*format!("bound: {}", bound.trim_end())), "{scenario}");
+        let out = unfolded(&ran.out);
+        let line = out.lines().nth(1);
+        assert_eq!(line, Some(&*format!("bound  {}", bound.trim_end())), "{scenario}");
     }
     let disabled = format!("{}arbitrate\n", START.replace("97h", "87h"));
     let premise = "an arbitration with interrupts disabled (IEN = 0) at step 0 (line 7: arbitrate)";
-    assert_report(&disabled, NEVER, &format!("none, as a premise fails: {premise}"));
+    assert_report(&disabled, NEVER, &format!("none: {premise}"));
 }
 
 fn within(outranking: u32, triggers: u32) -> String {
     format!(
         "by arbitration {} at the latest, H {outranking}, E {triggers} \
-         (demand 3, if the list has so many: it has N; H: unmasked outranking sources pending at the start, E: triggers of such in the list)",
+         (demand 3, if the list has so many: it has N) \
+         H: unmasked outranking sources pending at the start E: triggers of such in the list",
         outranking + triggers + 1
     )
 }
@@ -169,7 +176,7 @@ fn the_table_tells_the_claims() {
         table("arbitrate\nwrite EIPR 00h\n"),
         [
             "  by arbitration 1 at the latest, H 0, E 0 (the handlers' claim)",
-            "  none, as a premise fails: the write at step 1 (line 10: write EIPR 00h) erases the source's pending bit (the handlers' claim)",
+            "  none: the write at step 1 (line 10: write EIPR 00h) erases the source's pending bit (the handlers' claim)",
         ],
     );
 }
@@ -196,9 +203,8 @@ fn sources_by_every_name() {
 #[test]
 fn a_source_that_is_raised_later() {
     let start = START.replace("EIPR 04h", "EIPR 00h");
-    let bound = "none, as a premise fails: the source is not pending";
-    let later =
-        "at the start (a `bound INTB0` in the scenario, after it is raised, asks from there)";
+    let bound = "none: the source is not pending";
+    let later = "at the start (`bound INTB0` in the scenario, after it is raised, asks from there)";
     let waited = "acknowledged by arbitration 1 at step 1 (line N)";
     assert_report(
         &format!("{start}edge INTB0 falling\narbitrate\n"),

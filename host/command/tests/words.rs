@@ -265,16 +265,10 @@ fn returns() {
 
 const WITHIN: Bound = Bound::Within { outranking: 1, triggers: 2, bound: 4 };
 
-/// The explanations of a bound over a list with so many arbitrations; `beside` stands between the claim and what H and E are.
+/// A bound over a list with so many arbitrations, and what is told beside it.
 fn within(claim: &str, has: usize, beside: &str) -> String {
-    let triggers = match claim {
-        "demand 3" => "triggers of such in the list",
-        _ => "triggers of such and bits of theirs that writes raise, up to the acknowledgement",
-    };
-    format!(
-        "by arbitration 4 at the latest, H 1, E 2 ({claim}, if the list has so many: it has {has}; {beside}\
-         H: unmasked outranking sources pending at the start, E: {triggers})"
-    )
+    let by = "by arbitration 4 at the latest, H 1, E 2";
+    format!("{by} ({claim}, if the list has so many: it has {has}{beside})")
 }
 
 #[test]
@@ -285,7 +279,7 @@ fn bounds_of_one_claim() {
         assert_eq!(claimed(WITHIN).explained(list), within(name, 0, ""));
         assert_eq!(claimed(WITHIN).words(list), "by arbitration 4 at the latest, H 1, E 2");
         let fails = claimed(Bound::Fails(Premise::Masked));
-        assert_eq!(fails.explained(list), "none, as a premise fails: the source is masked");
+        assert_eq!(fails.explained(list), "none: the source is masked");
     }
 }
 
@@ -300,13 +294,14 @@ fn premises_of_steps() {
     for (index, from) in [(2, 0), (1, 1)] {
         let place = "at step 2 (line 12: write EIPR 00h)";
         let other = Premise::OtherStep { index };
-        let words = "none, as a premise fails:";
+        let words = "none:";
         let demand3 = format!("{words} a step that is no trigger, arbitration or return {place}");
         assert_eq!(told(Claim::Demand3, other, from), demand3);
         assert_eq!(told(Claim::Handlers, other, from), format!("{words} a reset {place}"));
     }
     let disabled = Premise::InterruptsDisabled { index: 0 };
-    let words = "none, as a premise fails: an arbitration with interrupts disabled (IEN = 0) at step 1 (line 12: arbitrate)";
+    let words =
+        "none: an arbitration with interrupts disabled (IEN = 0) at step 1 (line 12: arbitrate)";
     assert_eq!(told(Claim::Demand3, disabled, 1), words);
     assert_eq!(told(Claim::Handlers, disabled, 1), words);
 }
@@ -328,7 +323,7 @@ fn writes_that_change_what_a_bound_rests_on() {
         let claimed = Claimed { claim: Claim::Handlers, bound };
         let told = claimed.explained(List { steps: &steps, from: 0 });
         let place = "the write at step 0 (line 12: write EIPR 00h)";
-        assert_eq!(told, format!("none, as a premise fails: {place} {words}"));
+        assert_eq!(told, format!("none: {place} {words}"));
     }
 }
 
@@ -342,16 +337,16 @@ fn bounds_of_both_claims() {
         (bounds.explained(list), bounds.words(list))
     };
     let by = "by arbitration 4 at the latest, H 1, E 2";
-    let (claim, none) = ("the handlers' claim", "none, as a premise fails:");
+    let (claim, none) = ("the handlers' claim", "none:");
     let both = |long: String, short: String| (long, short);
     assert_eq!(told(WITHIN, None), both(within("demand 3", 1, ""), format!("{by} (demand 3)")));
     let read = Bound::Fails(Premise::OtherStep { index: 0 });
     let beside = "demand 3 does not speak of step 0 (line 12: read EIPR)";
-    let expected = both(within(claim, 1, &format!("{beside}; ")), format!("{by} ({claim})"));
+    let expected = both(within(claim, 1, &format!("; {beside}")), format!("{by} ({claim})"));
     assert_eq!(told(read, Some(WITHIN)), expected);
     let disabled = Bound::Fails(Premise::InterruptsDisabled { index: 2 });
     let arbitrates =
-        "demand 3 does not speak of step 2 (line 12: arbitrate) with interrupts disabled; ";
+        "; demand 3 does not speak of step 2 (line 12: arbitrate) with interrupts disabled";
     let expected = both(within(claim, 1, arbitrates), format!("{by} ({claim})"));
     assert_eq!(told(disabled, Some(WITHIN)), expected);
     let erased = Bound::Fails(Premise::Changed { basis: Basis::Pending, index: 1 });
