@@ -1,6 +1,7 @@
 //! The bounds of a source's wait, in words and as objects: by demand 3, over triggers, arbitrations and returns; by the
 //! handlers' claim, over lists that also read, and write what leaves what the bound rests on.
 
+use crate::answers::counted;
 use crate::calls::Model;
 use crate::{Object, StepLine};
 use st9::{Basis, Bound, Channel, Premise, Refusal, Source};
@@ -51,10 +52,12 @@ impl List<'_> {
         }
     }
 
-    /// How many arbitrations the list has.
-    fn arbitrations(self) -> usize {
+    /// How many arbitrations the list has, and whether they may be too few for a bound.
+    fn length(self, bound: u64) -> String {
         let is_arbitration = |step: &&StepLine| step.operation.step.word() >> 48 == 3;
-        self.steps.iter().skip(self.from).filter(is_arbitration).count()
+        let has = self.steps.iter().skip(self.from).filter(is_arbitration).count() as u64;
+        let only = if has < bound { "only " } else { "" };
+        format!("the list has {only}{}", counted(has, "arbitration"))
     }
 }
 
@@ -149,15 +152,16 @@ impl Claimed {
 
     /// The same with what stands beside it.
     fn explained_beside(self, beside: Option<String>, list: List) -> String {
-        let (words, claim) = (self.words(list), self.claim.name());
-        match (self.bound, beside) {
-            (Bound::Within { .. }, beside) => {
-                let beside = beside.map_or(String::new(), |beside| format!("; {beside}"));
-                let has = list.arbitrations();
-                format!("{words} ({claim}, if the list has so many: it has {has}{beside})")
+        let has = match self.bound {
+            Bound::Within { bound, .. } => Some(list.length(bound)),
+            Bound::Fails(_) => None,
+        };
+        let beside: Vec<_> = has.into_iter().chain(beside).collect();
+        match beside.is_empty() {
+            true => self.words(list),
+            false => {
+                format!("{} ({}; {})", self.words(list), self.claim.name(), beside.join("; "))
             }
-            (Bound::Fails(_), Some(beside)) => format!("{words} ({claim}; {beside})"),
-            (Bound::Fails(_), None) => words,
         }
     }
 }
@@ -216,27 +220,21 @@ impl Bounds {
     pub fn explained(self, list: List) -> String {
         let told = self.told();
         let beside = match (told.claim, self.demand3) {
-            (Claim::Handlers, Bound::Fails(premise)) => Some(silence(premise, told.bound, list)),
+            (Claim::Handlers, Bound::Fails(premise)) => Some(silence(premise, list)),
             _ => None,
         };
         told.explained_beside(beside, list)
     }
 }
 
-/// Why demand 3 does not speak, beside what the handlers' claim says. Of the same step the line is told already.
-fn silence(premise: Premise, told: Bound, list: List) -> String {
-    let index = premise.index().unwrap_or_default();
-    let place = match told {
-        Bound::Fails(other) if other.index() == Some(index) => {
-            format!("step {}", list.from + index)
-        }
-        _ => list.place(index),
-    };
+/// Why demand 3 does not speak, beside what the handlers' claim says.
+fn silence(premise: Premise, list: List) -> String {
+    let step = list.from + premise.index().unwrap_or_default();
     let how = match premise {
         Premise::InterruptsDisabled { .. } => " with interrupts disabled",
         _ => "",
     };
-    format!("demand 3 does not speak of {place}{how}")
+    format!("demand 3 does not speak of step {step}{how}")
 }
 
 /// A bound's members.

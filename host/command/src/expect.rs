@@ -526,7 +526,7 @@ mod tests {
             ),
             (
                 "none: erased at step 4",
-                "none: the write at step 4 (line 16: write EIPR 00h) erases the source's pending bit (the handlers' claim; demand 3 does not speak of step 3 (line 15: read EIPR))",
+                "none: the write at step 4 (line 16: write EIPR 00h) erases the source's pending bit (the handlers' claim; demand 3 does not speak of step 3)",
             ),
             ("done 2 last none", "done: 2 steps, last answer: none (nothing is pending)"),
             ("never", "not acknowledged"),

@@ -82,18 +82,27 @@ fn readme_shows_a_case_of_ones_own() {
     assert!(readme.contains(&shown(unmet.trim_start())), "{unmet}");
 }
 
+/// Whether these are lines of an output, in this order.
+fn has_lines(out: &str, lines: &str) -> bool {
+    let mut printed = out.lines();
+    lines.lines().all(|line| printed.any(|other| other == line))
+}
+
 #[test]
 fn readme_answers_the_reviewers_questions() {
     let readme = document("README.md");
     let own_bit = ["run", "examples/own-bit.st9"];
     let bound = ["wait", "examples/bound.st9", "--source", "INTC0"];
-    let blocks =
-        [(&own_bit[..], "   bound INTC0           by arbitration"), (&bound[..], "wait for INTC0")];
-    for (arguments, start) in blocks {
+    let blocks = [
+        (&own_bit[..], "   bound INTC0           by arbitration", 4),
+        (&bound[..], "wait for INTC0", 2),
+    ];
+    for (arguments, start, length) in blocks {
         let out = st9_in(&root(), arguments, b"").with_code(0).out;
         let block = block(&readme, start);
         assert!(readme.contains(&format!("./st9 {}", arguments.join(" "))), "{arguments:?}");
-        assert!(block.lines().count() > 1 && out.contains(&block), "{block}");
+        assert_eq!(block.lines().count(), length);
+        assert!(has_lines(&out, &block), "{block}");
     }
 }
 

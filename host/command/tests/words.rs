@@ -266,17 +266,23 @@ fn returns() {
 const WITHIN: Bound = Bound::Within { outranking: 1, triggers: 2, bound: 4 };
 
 /// A bound over a list with so many arbitrations, and what is told beside it.
-fn within(claim: &str, has: usize, beside: &str) -> String {
+fn within(claim: &str, has: &str, beside: &str) -> String {
     let by = "by arbitration 4 at the latest, H 1, E 2";
-    format!("{by} ({claim}, if the list has so many: it has {has}{beside})")
+    format!("{by} ({claim}; the list has {has}{beside})")
 }
 
 #[test]
 fn bounds_of_one_claim() {
     let list = List { steps: &[], from: 0 };
+    let many = [step("arbitrate"); 5];
+    for (from, has) in [(0, "5 arbitrations"), (1, "4 arbitrations"), (2, "only 3 arbitrations")] {
+        let list = List { steps: &many, from };
+        let claimed = Claimed { claim: Claim::Demand3, bound: WITHIN };
+        assert_eq!(claimed.explained(list), within("demand 3", has, ""));
+    }
     for (claim, name) in [(Claim::Demand3, "demand 3"), (Claim::Handlers, "the handlers' claim")] {
         let claimed = |bound| Claimed { claim, bound };
-        assert_eq!(claimed(WITHIN).explained(list), within(name, 0, ""));
+        assert_eq!(claimed(WITHIN).explained(list), within(name, "only 0 arbitrations", ""));
         assert_eq!(claimed(WITHIN).words(list), "by arbitration 4 at the latest, H 1, E 2");
         let fails = claimed(Bound::Fails(Premise::Masked));
         assert_eq!(fails.explained(list), "none: the source is masked");
@@ -337,17 +343,16 @@ fn bounds_of_both_claims() {
         (bounds.explained(list), bounds.words(list))
     };
     let by = "by arbitration 4 at the latest, H 1, E 2";
-    let (claim, none) = ("the handlers' claim", "none:");
+    let (claim, none, one) = ("the handlers' claim", "none:", "only 1 arbitration");
     let both = |long: String, short: String| (long, short);
-    assert_eq!(told(WITHIN, None), both(within("demand 3", 1, ""), format!("{by} (demand 3)")));
+    assert_eq!(told(WITHIN, None), both(within("demand 3", one, ""), format!("{by} (demand 3)")));
     let read = Bound::Fails(Premise::OtherStep { index: 0 });
-    let beside = "demand 3 does not speak of step 0 (line 12: read EIPR)";
-    let expected = both(within(claim, 1, &format!("; {beside}")), format!("{by} ({claim})"));
+    let beside = "demand 3 does not speak of step 0";
+    let expected = both(within(claim, one, &format!("; {beside}")), format!("{by} ({claim})"));
     assert_eq!(told(read, Some(WITHIN)), expected);
     let disabled = Bound::Fails(Premise::InterruptsDisabled { index: 2 });
-    let arbitrates =
-        "; demand 3 does not speak of step 2 (line 12: arbitrate) with interrupts disabled";
-    let expected = both(within(claim, 1, arbitrates), format!("{by} ({claim})"));
+    let arbitrates = "; demand 3 does not speak of step 2 with interrupts disabled";
+    let expected = both(within(claim, one, arbitrates), format!("{by} ({claim})"));
     assert_eq!(told(disabled, Some(WITHIN)), expected);
     let erased = Bound::Fails(Premise::Changed { basis: Basis::Pending, index: 1 });
     let words = format!(
@@ -355,7 +360,7 @@ fn bounds_of_both_claims() {
     );
     let expected = both(format!("{words} ({claim}; {beside})"), format!("{words} ({claim})"));
     assert_eq!(told(read, Some(erased)), expected);
-    // The line of one step is told once, and what fails of both claims alike once.
+    // What fails of both claims alike is told once.
     let write = Bound::Fails(Premise::OtherStep { index: 1 });
     let beside = "demand 3 does not speak of step 1";
     assert_eq!(told(write, Some(erased)).0, format!("{words} ({claim}; {beside})"));
