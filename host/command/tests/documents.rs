@@ -75,11 +75,13 @@ fn readme_shows_the_march_incident() {
 fn readme_shows_a_case_of_ones_own() {
     let readme = document("README.md");
     let folder = folder("readme");
-    fs::write(folder.join("fan.st9"), block(&readme, "image zero  ")).expect("a scenario");
-    let ran = st9_in(&folder, &["test", "fan.st9"], b"").with_code(3);
-    let unmet = ran.out.lines().find(|line| line.contains("expected")).expect("what is not met");
-    assert!(readme.contains("./st9 test fan.st9"));
-    assert!(readme.contains(&shown(unmet.trim_start())), "{unmet}");
+    fs::write(folder.join("my.st9"), block(&readme, "image zero  ")).expect("a scenario");
+    st9_in(&folder, &["run", "my.st9"], b"").with_code(3);
+    let ran = st9_in(&folder, &["test", "my.st9"], b"").with_code(3);
+    assert!(readme.contains("./st9 test my.st9"));
+    let lines = block(&readme, "my.st9:");
+    assert!(ran.out.contains("expected acknowledged INTC0; came none"), "{}", ran.out);
+    assert!(has_lines(&ran.out, &lines), "{}", ran.out);
 }
 
 /// Whether these are lines of an output, in this order.
