@@ -1,5 +1,8 @@
 //! The records of a channel list.
 
+/// The most records of a channel list.
+pub const MOST_CHANNELS: usize = 12;
+
 /// A record of the channel list: a page of 1 to 63, five register numbers of 240 to 255 there, and a direction.
 ///
 /// Any bytes may be lent: a list that breaks a rule is refused with 2.

@@ -28,7 +28,9 @@ mod answer;
 mod bound;
 mod calls;
 mod channel;
+mod image;
 mod refusal;
+mod registers;
 mod run;
 mod source;
 mod step;
@@ -37,73 +39,10 @@ pub mod sys;
 
 pub use answer::{step, Answer, Effect};
 pub use bound::{bound, handler_bound, Basis, Bound, Premise};
-pub use channel::{Channel, Direction};
+pub use channel::{Channel, Direction, MOST_CHANNELS};
+pub use image::{place, view, IMAGE_LENGTH, MARK};
 pub use refusal::Refusal;
+pub use registers::{cicr, eivr, idcr, nicr, register};
 pub use run::{run, wait, Done, RunError, Wait, WaitError};
 pub use source::Source;
 pub use step::{Edge, Step};
-
-/// The bytes of an image: R0 to R239, then R240 to R255 of pages 0 to 63, then the top-level-in-service mark.
-pub const IMAGE_LENGTH: usize = 1265;
-
-/// The byte of the mark: not 0 where the top level is in service.
-pub const MARK: usize = 1264;
-
-/// The most records of a channel list.
-pub const MOST_CHANNELS: usize = 12;
-
-/// The registers that document 01 names, by their number; those from `EITR` on are of page 0.
-pub mod register {
-    /// Central interrupt control register.
-    pub const CICR: u8 = 230;
-    /// Page pointer register.
-    pub const PPR: u8 = 234;
-    /// Mode register.
-    pub const MODER: u8 = 235;
-    /// External interrupt trigger register.
-    pub const EITR: u8 = 242;
-    /// External interrupt pending register.
-    pub const EIPR: u8 = 243;
-    /// External interrupt mask-bit register.
-    pub const EIMR: u8 = 244;
-    /// External interrupt priority level register.
-    pub const EIPLR: u8 = 245;
-    /// External interrupt vector register.
-    pub const EIVR: u8 = 246;
-    /// Nested interrupt control register.
-    pub const NICR: u8 = 247;
-}
-
-/// The byte of an image that a register has. The page matters for registers 240 to 255 alone; one over 63 has no
-/// registers in an image, and the byte is then beyond its end.
-pub const fn place(page: u8, register: u8) -> usize {
-    if register < 240 {
-        register as usize
-    } else {
-        240 + 16 * page as usize + (register as usize - 240)
-    }
-}
-
-/// The sixteen bytes of a page, as stored: a part of the image itself, whatever page PPR selects.
-///
-/// Refused with 1 where the image has another length, then with 3 where the page is over 63.
-///
-/// ```
-/// use st9::{view, Refusal};
-///
-/// let image = [0; st9::IMAGE_LENGTH];
-/// assert_eq!(view(&image, 9), Ok(&image[384..400]));
-/// assert_eq!(view(&image, 64), Err(Refusal::Register));
-/// assert_eq!(view(&image[1..], 64), Err(Refusal::ImageLength));
-/// ```
-pub fn view(image: &[u8], page: u32) -> Result<&[u8], Refusal> {
-    let number = calls::view_number(image, page);
-    if number != 0 {
-        return Err(Refusal::answered(number));
-    }
-    let start = 240 + 16 * page as usize;
-    match image.get(start..start + 16) {
-        Some(bytes) => Ok(bytes),
-        None => calls::foreign("a view's number", number),
-    }
-}

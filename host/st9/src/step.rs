@@ -81,6 +81,23 @@ const FIRST_LARGEST: u32 = 0xFF_FFFF;
 const SECOND_LARGEST: u32 = 0xFF;
 
 impl Step {
+    /// A read of a register by its number, such as those of [`register`](crate::register).
+    pub const fn read(register: u8) -> Step {
+        Step::Read { register: register as u32 }
+    }
+
+    /// A write to a register by its number.
+    ///
+    /// ```
+    /// use st9::{register, Step};
+    ///
+    /// let write = Step::Write { register: 243, value: 0x10 };
+    /// assert_eq!(Step::write(register::EIPR, 0x10), write);
+    /// ```
+    pub const fn write(register: u8, value: u8) -> Step {
+        Step::Write { register: register as u32, value }
+    }
+
     /// The step's word: kind * 2^48 + trigger * 2^32 + first * 2^8 + second.
     ///
     /// A number that a word has no room for becomes the largest that there is room for, which is refused likewise.
@@ -88,7 +105,7 @@ impl Step {
     /// ```
     /// use st9::Step;
     ///
-    /// assert_eq!(Step::Write { register: 243, value: 0x10 }.word(), 0x0001_0000_0000_F310);
+    /// assert_eq!(Step::write(243, 0x10).word(), 0x0001_0000_0000_F310);
     /// assert_eq!(Step::Read { register: 1 << 24 }.word(), 0x0000_0000_FFFF_FF00);
     /// ```
     pub const fn word(self) -> u64 {
@@ -112,7 +129,7 @@ impl Step {
     /// ```
     /// use st9::Step;
     ///
-    /// assert_eq!(Step::of_word(0x0001_0000_0000_F310), Step::Write { register: 243, value: 0x10 });
+    /// assert_eq!(Step::of_word(0x0001_0000_0000_F310), Step::write(243, 0x10));
     /// assert_eq!(Step::of_word(0x0006_0000_0000_0000), Step::Word(0x0006_0000_0000_0000));
     /// ```
     pub fn of_word(word: u64) -> Step {
@@ -180,6 +197,14 @@ mod tests {
             assert_eq!(step.word(), word, "{step:?}");
             assert_eq!(Step::of_word(word).word(), word, "{step:?}");
         }
+    }
+
+    #[test]
+    fn registers_by_number() {
+        const READ: Step = Step::read(255);
+        const WRITE: Step = Step::write(243, 0x10);
+        assert_eq!(READ, Step::Read { register: 255 });
+        assert_eq!(WRITE, Step::Write { register: 243, value: 0x10 });
     }
 
     #[test]

@@ -143,8 +143,8 @@ fn c11_dma_first() {
 #[test]
 fn c12_c13_writes() {
     let mut part = Part::new(&[(EIPR, 0x03), (NICR, 0x80)]);
-    let eipr = Step::Write { register: EIPR.into(), value: 0x01 };
+    let eipr = Step::write(EIPR, 0x01);
     part.check(eipr, Ok(Answer::Written { erased: 0x02 }), &[(byte_of(EIPR), 0x01)]);
-    let nicr = Step::Write { register: NICR.into(), value: 0x00 };
+    let nicr = Step::write(NICR, 0x00);
     part.check(nicr, Ok(Answer::Written { erased: 0x00 }), &[]);
 }
