@@ -226,8 +226,8 @@ impl Report<'_> {
             }
             Answer::Triggered { maskable, tlip } => object
                 .text("answer", "triggered")
-                .text("maskable", effect_name(maskable))
-                .text("tlip", effect_name(tlip)),
+                .text("maskable", &maskable.to_string())
+                .text("tlip", &tlip.to_string()),
             Answer::Nothing => object.text("answer", "none"),
             Answer::TopLevel { vector } => {
                 object.text("answer", "top level").number("vector", vector.into())
@@ -244,14 +244,6 @@ impl Report<'_> {
             Answer::Returned => object.text("answer", "returned"),
             Answer::Reset => object.text("answer", "reset"),
         }
-    }
-}
-
-fn effect_name(effect: Effect) -> &'static str {
-    match effect {
-        Effect::NotSelected => "not selected",
-        Effect::Raised => "raised",
-        Effect::Merged => "merged",
     }
 }
 

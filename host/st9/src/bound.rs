@@ -91,19 +91,13 @@ impl Basis {
             number => calls::foreign("what a write changed", number),
         }
     }
-}
 
-impl fmt::Display for Basis {
-    fn fmt(&self, f: &mut fmt::Formatter<'_>) -> fmt::Result {
-        f.write_str(match self {
-            Basis::Pending => "the source's pending bit",
-            Basis::Mode => "the mode (IAM)",
-            Basis::CurrentLevel => "the current level (CPL)",
-            Basis::TopLevel => "the top level's enables (TLI or TLNM)",
-            Basis::Mask => "a source's mask",
-            Basis::DmaEnable => "a channel's DMA enable (DM)",
-            Basis::Level => "a source's level",
-        })
+    /// What a write does to it.
+    fn change(self) -> String {
+        match self {
+            Basis::Pending => format!("erases {self}"),
+            _ => format!("changes {self}"),
+        }
     }
 }
 
@@ -119,6 +113,25 @@ impl Premise {
     }
 }
 
+/// `by arbitration 3 at the latest, H 1, E 1`, `none: the source is masked`.
+impl fmt::Display for Bound {
+    fn fmt(&self, f: &mut fmt::Formatter<'_>) -> fmt::Result {
+        f.pad(&match *self {
+            Bound::Within { outranking, triggers, bound } => {
+                format!("by arbitration {bound} at the latest, H {outranking}, E {triggers}")
+            }
+            Bound::Fails(Premise::Changed { basis, index }) => {
+                format!("none: the write at step {index} {}", basis.change())
+            }
+            Bound::Fails(premise) => match premise.index() {
+                Some(index) => format!("none: {premise} at step {index}"),
+                None => format!("none: {premise}"),
+            },
+        })
+    }
+}
+
+/// `nested mode (IAM = 1)`, `a write that changes the mode (IAM)`: without the step.
 impl fmt::Display for Premise {
     fn fmt(&self, f: &mut fmt::Formatter<'_>) -> fmt::Result {
         let words = match self {
@@ -133,12 +146,26 @@ impl fmt::Display for Premise {
             Premise::InterruptsDisabled { .. } => {
                 "an arbitration with interrupts disabled (IEN = 0)"
             }
-            Premise::Changed { basis: Basis::Pending, .. } => {
-                "a write that erases the source's pending bit"
+            Premise::Changed { basis, .. } => {
+                return f.pad(&format!("a write that {}", basis.change()))
             }
-            Premise::Changed { basis, .. } => return write!(f, "a write that changes {basis}"),
         };
-        f.write_str(words)
+        f.pad(words)
+    }
+}
+
+/// `the mode (IAM)`.
+impl fmt::Display for Basis {
+    fn fmt(&self, f: &mut fmt::Formatter<'_>) -> fmt::Result {
+        f.pad(match self {
+            Basis::Pending => "the source's pending bit",
+            Basis::Mode => "the mode (IAM)",
+            Basis::CurrentLevel => "the current level (CPL)",
+            Basis::TopLevel => "the top level's enables (TLI or TLNM)",
+            Basis::Mask => "a source's mask",
+            Basis::DmaEnable => "a channel's DMA enable (DM)",
+            Basis::Level => "a source's level",
+        })
     }
 }
 

@@ -36,6 +36,7 @@ mod source;
 mod step;
 #[allow(unsafe_code)]
 pub mod sys;
+mod text;
 
 pub use answer::{step, Answer, Effect};
 pub use bound::{bound, handler_bound, Basis, Bound, Premise};

@@ -1,6 +1,6 @@
 //! The refusals of document 01.
 
-use crate::calls;
+use crate::{calls, text};
 use std::fmt;
 
 /// Why a call or a step was refused. Nothing was changed by what was refused.
@@ -45,6 +45,11 @@ impl Refusal {
         Refusal::ALL.into_iter().find(|refusal| u64::from(refusal.number()) == number)
     }
 
+    /// `refused with 3 (..)`: the number and the meaning. The refusal itself is printed as its meaning alone.
+    pub fn with_number(self) -> String {
+        text::refused(self, "")
+    }
+
     pub(crate) fn answered(number: u64) -> Refusal {
         Refusal::from_number(number).unwrap_or_else(|| calls::foreign("a refusal", number))
     }
@@ -53,7 +58,7 @@ impl Refusal {
 /// Document 01's words: "given exactly when".
 impl fmt::Display for Refusal {
     fn fmt(&self, f: &mut fmt::Formatter<'_>) -> fmt::Result {
-        f.write_str(match self {
+        f.pad(match self {
             Refusal::ImageLength => "image length is not 1,265",
             Refusal::ChannelList => "channel list breaks a rule",
             Refusal::Register => {

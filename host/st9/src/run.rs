@@ -1,5 +1,6 @@
 //! Runs and the wait report.
 
+use crate::text::{counted, refused};
 use crate::{calls, sys, Answer, Channel, Refusal, Source};
 use std::error::Error;
 use std::fmt;
@@ -122,32 +123,62 @@ pub(crate) fn count(number: u64) -> usize {
     usize::try_from(number).unwrap_or_else(|_| calls::foreign("a number of steps", number))
 }
 
+/// `done: 3 steps, last answer: byte 14h`.
+impl fmt::Display for Done {
+    fn fmt(&self, f: &mut fmt::Formatter<'_>) -> fmt::Result {
+        let steps = counted(self.steps as u64, "step");
+        let last = match self.last {
+            Some(answer) => answer.to_string(),
+            None => "none (the list is empty)".to_string(),
+        };
+        f.pad(&format!("done: {steps}, last answer: {last}"))
+    }
+}
+
+/// `acknowledged by arbitration 3`.
+impl fmt::Display for Wait {
+    fn fmt(&self, f: &mut fmt::Formatter<'_>) -> fmt::Result {
+        f.pad(&match *self {
+            Wait::Acknowledged { arbitrations } => {
+                format!("acknowledged by arbitration {arbitrations}")
+            }
+            Wait::Ended { arbitrations } => {
+                let made = counted(arbitrations, "arbitration");
+                format!("not acknowledged, the list ended after {made}")
+            }
+        })
+    }
+}
+
+/// `refused with 3 at step 2 (..)`, `refused with 1 (..), before any step`.
 impl fmt::Display for RunError {
     fn fmt(&self, f: &mut fmt::Formatter<'_>) -> fmt::Result {
-        match self {
-            RunError::Call(refusal) => refused(f, *refusal),
-            RunError::Step { refusal, index } => {
-                write!(f, "step {index} ")?;
-                refused(f, *refusal)
-            }
-        }
+        f.pad(&match *self {
+            RunError::Call(refusal) => refused_before(refusal),
+            RunError::Step { refusal, index } => refused_at(refusal, index, ""),
+        })
     }
 }
 
+/// `refused with 3 at step 2, after 1 arbitration (..)`, `refused with 1 (..), before any step`.
 impl fmt::Display for WaitError {
     fn fmt(&self, f: &mut fmt::Formatter<'_>) -> fmt::Result {
-        match self {
-            WaitError::Call(refusal) => refused(f, *refusal),
+        f.pad(&match *self {
+            WaitError::Call(refusal) => refused_before(refusal),
             WaitError::Step { refusal, index, arbitrations } => {
-                write!(f, "step {index}, after {arbitrations} arbitrations, ")?;
-                refused(f, *refusal)
+                let made = counted(arbitrations, "arbitration");
+                refused_at(refusal, index, &format!(", after {made}"))
             }
-        }
+        })
     }
 }
 
-fn refused(f: &mut fmt::Formatter<'_>, refusal: Refusal) -> fmt::Result {
-    write!(f, "refused with {}: {refusal}", refusal.number())
+fn refused_before(refusal: Refusal) -> String {
+    format!("{}, before any step", refused(refusal, ""))
+}
+
+fn refused_at(refusal: Refusal, index: usize, made: &str) -> String {
+    refused(refusal, &format!(" at step {index}{made}"))
 }
 
 impl Error for RunError {}

@@ -38,9 +38,9 @@ impl Source {
 /// `INTB0` or `channel 0`.
 impl fmt::Display for Source {
     fn fmt(&self, f: &mut fmt::Formatter<'_>) -> fmt::Result {
-        match Source::EXTERNAL.get(self.0 as usize) {
-            Some(name) => f.pad(name),
-            None => write!(f, "channel {}", self.0 - 8),
+        match self.0.checked_sub(8) {
+            Some(record) => f.pad(&format!("channel {record}")),
+            None => f.pad(Source::EXTERNAL[self.0 as usize]),
         }
     }
 }

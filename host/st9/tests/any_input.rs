@@ -205,17 +205,3 @@ fn nothing_lent() {
     assert_eq!(st9::bound(&image, &[], beyond, &[]), Err(Refusal::Number));
     assert_eq!(st9::handler_bound(&image, &[], beyond, &[]), Err(Refusal::Number));
 }
-
-#[test]
-fn refusals_in_words() {
-    let error = RunError::Step { refusal: Refusal::UnknownKind, index: 3 };
-    assert_eq!(error.to_string(), "step 3 refused with 7: step or trigger kind unknown");
-    let error = WaitError::Call(Refusal::ImageLength);
-    assert_eq!(error.to_string(), "refused with 1: image length is not 1,265");
-    for (refusal, number) in Refusal::ALL.into_iter().zip(1..) {
-        assert_eq!(u64::from(refusal.number()), number);
-        assert_eq!(Refusal::from_number(number), Some(refusal));
-    }
-    assert_eq!(Refusal::from_number(0), None);
-    assert_eq!(Refusal::from_number(8), None);
-}
