@@ -13,7 +13,7 @@ impl Model for Proved {
     }
 
     fn run(&self, image: &mut [u8], channels: &[Channel], words: &[u64]) -> Result<Done, RunError> {
-        st9::run(image, channels, words)
+        st9::words::run(image, channels, words)
     }
 
     fn wait(
@@ -23,7 +23,7 @@ impl Model for Proved {
         source: Source,
         words: &[u64],
     ) -> Result<Wait, WaitError> {
-        st9::wait(image, channels, source, words)
+        st9::words::wait(image, channels, source, words)
     }
 
     fn bound(
@@ -33,7 +33,7 @@ impl Model for Proved {
         source: Source,
         words: &[u64],
     ) -> Result<Bound, Refusal> {
-        st9::bound(image, channels, source, words)
+        st9::words::bound(image, channels, source, words)
     }
 
     fn handler_bound(
@@ -43,7 +43,7 @@ impl Model for Proved {
         source: Source,
         words: &[u64],
     ) -> Result<Bound, Refusal> {
-        st9::handler_bound(image, channels, source, words)
+        st9::words::handler_bound(image, channels, source, words)
     }
 
     fn view<'a>(&self, image: &'a [u8], page: u32) -> Result<&'a [u8], Refusal> {

@@ -86,7 +86,7 @@ impl Report {
         let bounds = Bounds::of(&Proved, image, &case.channels, source, &words);
         progress.whole("the wait report over");
         let mut image = image.to_vec();
-        let waited = st9::wait(&mut image, &case.channels, source, &words);
+        let waited = st9::words::wait(&mut image, &case.channels, source, &words);
         Report { source, waited, bounds, image }
     }
 

@@ -21,7 +21,7 @@ impl Model for Slipped {
     }
 
     fn run(&self, image: &mut [u8], channels: &[Channel], words: &[u64]) -> Result<Done, RunError> {
-        let answer = st9::run(image, channels, words);
+        let answer = st9::words::run(image, channels, words);
         let answer = answer.map(|done| Done { last: done.last.or(Some(Answer::Returned)), ..done });
         slip(image, answer)
     }
@@ -33,7 +33,7 @@ impl Model for Slipped {
         source: Source,
         words: &[u64],
     ) -> Result<Wait, WaitError> {
-        let answer = st9::wait(image, channels, source, words);
+        let answer = st9::words::wait(image, channels, source, words);
         slip(image, answer)
     }
 
@@ -44,7 +44,7 @@ impl Model for Slipped {
         source: Source,
         words: &[u64],
     ) -> Result<Bound, Refusal> {
-        st9::bound(image, channels, source, words)
+        st9::words::bound(image, channels, source, words)
     }
 
     fn handler_bound(
@@ -54,7 +54,7 @@ impl Model for Slipped {
         source: Source,
         words: &[u64],
     ) -> Result<Bound, Refusal> {
-        st9::handler_bound(image, channels, source, words)
+        st9::words::handler_bound(image, channels, source, words)
     }
 
     fn view<'a>(&self, image: &'a [u8], page: u32) -> Result<&'a [u8], Refusal> {

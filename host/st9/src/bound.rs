@@ -1,7 +1,7 @@
 //! The two bounds of a source's wait: demand 3's, and the handlers' with reads and writes in the list.
 
 use crate::run::count;
-use crate::{calls, sys, Channel, Refusal, Source};
+use crate::{calls, sys, words, Channel, Refusal, Source, Step};
 use std::fmt;
 
 /// What is promised of a source over a list of steps: by demand 3 (`bound`), or by the handlers' claim (`handler_bound`).
@@ -77,9 +77,111 @@ pub enum Basis {
     Level,
 }
 
+/// By which arbitration of the list the source is acknowledged at the latest, or the first premise of demand 3 that
+/// fails. Refused with 1, 2 or 4 as a wait report is. One allocation a call, for the words of the steps;
+/// [`words::bound`] takes them ready.
+///
+/// ```
+/// use st9::{bound, cicr, place, register, Bound, Premise, Source, Step};
+///
+/// let mut image = [0; st9::IMAGE_LENGTH];
+/// let steps = [Step::Arbitrate];
+/// let fails = Bound::Fails(Premise::NotPending);
+/// assert_eq!(bound(&image, &[], Source::INTB0, &steps), Ok(fails));
+///
+/// image[place(0, register::CICR)] = cicr::IEN | cicr::CPL;
+/// image[place(0, register::EIPR)] = 0x04;
+/// image[place(0, register::EIMR)] = 0x04;
+/// let within = Bound::Within { outranking: 0, triggers: 0, bound: 1 };
+/// assert_eq!(bound(&image, &[], Source::INTB0, &steps), Ok(within));
+/// ```
+pub fn bound(
+    image: &[u8],
+    channels: &[Channel],
+    source: Source,
+    steps: &[Step],
+) -> Result<Bound, Refusal> {
+    words::bound(image, channels, source, &words::of(steps))
+}
+
+/// The same with reads and writes in the list, as a handler does them: by which arbitration of the list the source is
+/// acknowledged at the latest, if the list has so many, or the first premise that fails of the steps up to its
+/// acknowledgement: no reset, IEN = 1 at each arbitration, and no write that changes the mode, the current level, the
+/// top level's enables, a source's mask, level or DMA enable, or that erases the source's pending bit. The answer has
+/// what a write changed. Never above `bound`'s where both answer one. Refused with 1, 2 or 4 as a wait report is.
+/// One allocation a call, for the words of the steps; [`words::handler_bound`] takes them ready.
+///
+/// ```
+/// use st9::{cicr, handler_bound, place, register, Basis, Bound, Premise, Source, Step};
+///
+/// let mut image = [0; st9::IMAGE_LENGTH];
+/// image[place(0, register::CICR)] = cicr::CPL; // the handler of INTB0 runs: IEN is 0
+/// image[place(0, register::EIPR)] = 0x14; // INTB0 and INTC0 pending
+/// image[place(0, register::EIMR)] = 0x14;
+/// image[place(0, register::EIPLR)] = 0xE7; // INTB0 at level 2, INTC0 at level 4
+///
+/// let handler = |kept| [Step::write(register::EIPR, kept), Step::Return, Step::Arbitrate];
+/// let within = Bound::Within { outranking: 1, triggers: 0, bound: 2 };
+/// assert_eq!(handler_bound(&image, &[], Source::INTC0, &handler(0x10)), Ok(within));
+///
+/// let erased = Bound::Fails(Premise::Changed { basis: Basis::Pending, index: 0 });
+/// assert_eq!(handler_bound(&image, &[], Source::INTC0, &handler(0x00)), Ok(erased));
+/// ```
+pub fn handler_bound(
+    image: &[u8],
+    channels: &[Channel],
+    source: Source,
+    steps: &[Step],
+) -> Result<Bound, Refusal> {
+    words::handler_bound(image, channels, source, &words::of(steps))
+}
+
+impl Bound {
+    /// Either bound's answer.
+    pub(crate) fn told(flat: &sys::Answer) -> Result<Bound, Refusal> {
+        match flat.kind {
+            sys::REFUSED_CALL => Err(Refusal::answered(flat.refusal)),
+            sys::WITHIN => Ok(Bound::Within {
+                outranking: flat.first,
+                triggers: flat.second,
+                bound: flat.third,
+            }),
+            _ => Ok(Bound::Fails(Premise::told(flat))),
+        }
+    }
+}
+
+impl Premise {
+    fn told(flat: &sys::Answer) -> Premise {
+        let index = count(flat.steps);
+        match flat.kind {
+            sys::NESTED => Premise::Nested,
+            sys::DMA_ENABLED => Premise::DmaEnabled,
+            sys::TOP_LEVEL_ENABLED => Premise::TopLevelEnabled,
+            sys::TOP_LEVEL_IN_SERVICE => Premise::TopLevelInService,
+            sys::NOT_PENDING => Premise::NotPending,
+            sys::MASKED => Premise::Masked,
+            sys::LEVEL_NOT_ABOVE => Premise::LevelNotAbove,
+            sys::OTHER_STEP => Premise::OtherStep { index },
+            sys::INTERRUPTS_DISABLED => Premise::InterruptsDisabled { index },
+            sys::CHANGED => Premise::Changed { basis: Basis::told(flat.first), index },
+            kind => calls::foreign("the kind of a bound", kind),
+        }
+    }
+
+    /// The index of the step that breaks the premise, where it is one of steps.
+    pub const fn index(self) -> Option<usize> {
+        match self {
+            Premise::OtherStep { index }
+            | Premise::InterruptsDisabled { index }
+            | Premise::Changed { index, .. } => Some(index),
+            _ => None,
+        }
+    }
+}
+
 impl Basis {
-    /// That of the number in a flat answer.
-    fn answered(number: u64) -> Basis {
+    fn told(number: u64) -> Basis {
         match number {
             sys::CHANGED_PENDING => Basis::Pending,
             sys::CHANGED_MODE => Basis::Mode,
@@ -97,18 +199,6 @@ impl Basis {
         match self {
             Basis::Pending => format!("erases {self}"),
             _ => format!("changes {self}"),
-        }
-    }
-}
-
-impl Premise {
-    /// The index of the step that breaks the premise, where it is one of steps.
-    pub const fn index(self) -> Option<usize> {
-        match self {
-            Premise::OtherStep { index }
-            | Premise::InterruptsDisabled { index }
-            | Premise::Changed { index, .. } => Some(index),
-            _ => None,
         }
     }
 }
@@ -169,91 +259,36 @@ impl fmt::Display for Basis {
     }
 }
 
-/// By which arbitration of the list the source is acknowledged at the latest, or the first premise of demand 3 that
-/// fails. Refused with 1, 2 or 4 as a wait report is.
-///
-/// ```
-/// use st9::{bound, register, Bound, Premise, Source, Step};
-///
-/// let mut image = [0; st9::IMAGE_LENGTH];
-/// let words = [Step::Arbitrate.word()];
-/// let fails = Bound::Fails(Premise::NotPending);
-/// assert_eq!(bound(&image, &[], Source::INTB0, &words), Ok(fails));
-///
-/// image[st9::place(0, register::CICR)] = 0x97;
-/// image[st9::place(0, register::EIPR)] = 0x04;
-/// image[st9::place(0, register::EIMR)] = 0x04;
-/// let within = Bound::Within { outranking: 0, triggers: 0, bound: 1 };
-/// assert_eq!(bound(&image, &[], Source::INTB0, &words), Ok(within));
-/// ```
-pub fn bound(
-    image: &[u8],
-    channels: &[Channel],
-    source: Source,
-    words: &[u64],
-) -> Result<Bound, Refusal> {
-    told(calls::bound(image, channels, source.0, words))
-}
+#[cfg(test)]
+mod tests {
+    use super::*;
 
-/// The same with reads and writes in the list, as a handler does them: by which arbitration of the list the source is
-/// acknowledged at the latest, if the list has so many, or the first premise that fails of the steps up to its
-/// acknowledgement: no reset, IEN = 1 at each arbitration, and no write that changes the mode, the current level, the
-/// top level's enables, a source's mask, level or DMA enable, or that erases the source's pending bit. The answer has
-/// what a write changed. Never above `bound`'s where both answer one. Refused with 1, 2 or 4 as a wait report is.
-///
-/// ```
-/// use st9::{handler_bound, register, Basis, Bound, Premise, Source, Step};
-///
-/// let mut image = [0; st9::IMAGE_LENGTH];
-/// image[st9::place(0, register::CICR)] = 0x87; // the handler of INTB0 runs: IEN is 0
-/// image[st9::place(0, register::EIPR)] = 0x14; // INTB0 and INTC0 pending
-/// image[st9::place(0, register::EIMR)] = 0x14;
-/// image[st9::place(0, register::EIPLR)] = 0xE7; // INTB0 at level 2, INTC0 at level 4
-///
-/// let eipr = u32::from(register::EIPR);
-/// let handler = |kept| {
-///     let write = Step::Write { register: eipr, value: kept };
-///     [Step::Read { register: eipr }, write, Step::Return, Step::Arbitrate].map(Step::word)
-/// };
-/// let within = Bound::Within { outranking: 1, triggers: 0, bound: 2 };
-/// assert_eq!(handler_bound(&image, &[], Source::INTC0, &handler(0x10)), Ok(within));
-///
-/// let erased = Bound::Fails(Premise::Changed { basis: Basis::Pending, index: 1 });
-/// assert_eq!(handler_bound(&image, &[], Source::INTC0, &handler(0x00)), Ok(erased));
-/// ```
-pub fn handler_bound(
-    image: &[u8],
-    channels: &[Channel],
-    source: Source,
-    words: &[u64],
-) -> Result<Bound, Refusal> {
-    told(calls::handler_bound(image, channels, source.0, words))
-}
-
-/// Either bound, as it is answered.
-fn told(flat: sys::Answer) -> Result<Bound, Refusal> {
-    let premise = match flat.kind {
-        sys::REFUSED_CALL => return Err(Refusal::answered(flat.refusal)),
-        sys::WITHIN => {
-            return Ok(Bound::Within {
-                outranking: flat.first,
-                triggers: flat.second,
-                bound: flat.third,
-            })
+    /// The kinds and changes by their numbers in `include/st9.h`.
+    #[test]
+    fn premises_by_number() {
+        let index = 5;
+        let changed = |basis| Premise::Changed { basis, index };
+        let expected = [
+            (15, 0, Premise::Nested),
+            (16, 0, Premise::DmaEnabled),
+            (17, 0, Premise::TopLevelEnabled),
+            (18, 0, Premise::TopLevelInService),
+            (19, 0, Premise::NotPending),
+            (20, 0, Premise::Masked),
+            (21, 0, Premise::LevelNotAbove),
+            (22, 0, Premise::OtherStep { index }),
+            (23, 0, Premise::InterruptsDisabled { index }),
+            (25, 1, changed(Basis::Pending)),
+            (25, 2, changed(Basis::Mode)),
+            (25, 3, changed(Basis::CurrentLevel)),
+            (25, 4, changed(Basis::TopLevel)),
+            (25, 5, changed(Basis::Mask)),
+            (25, 6, changed(Basis::DmaEnable)),
+            (25, 7, changed(Basis::Level)),
+        ];
+        for (kind, first, premise) in expected {
+            let flat = sys::Answer { kind, first, steps: 5, ..sys::Answer::default() };
+            assert_eq!(Bound::told(&flat), Ok(Bound::Fails(premise)));
         }
-        sys::NESTED => Premise::Nested,
-        sys::DMA_ENABLED => Premise::DmaEnabled,
-        sys::TOP_LEVEL_ENABLED => Premise::TopLevelEnabled,
-        sys::TOP_LEVEL_IN_SERVICE => Premise::TopLevelInService,
-        sys::NOT_PENDING => Premise::NotPending,
-        sys::MASKED => Premise::Masked,
-        sys::LEVEL_NOT_ABOVE => Premise::LevelNotAbove,
-        sys::OTHER_STEP => Premise::OtherStep { index: count(flat.steps) },
-        sys::INTERRUPTS_DISABLED => Premise::InterruptsDisabled { index: count(flat.steps) },
-        sys::CHANGED => {
-            Premise::Changed { basis: Basis::answered(flat.first), index: count(flat.steps) }
-        }
-        kind => calls::foreign("the kind of a bound", kind),
-    };
-    Ok(Bound::Fails(premise))
+    }
 }

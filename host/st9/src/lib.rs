@@ -37,6 +37,7 @@ mod step;
 #[allow(unsafe_code)]
 pub mod sys;
 mod text;
+pub mod words;
 
 pub use answer::{step, Answer, Effect};
 pub use bound::{bound, handler_bound, Basis, Bound, Premise};

@@ -1,7 +1,7 @@
 //! Runs and the wait report.
 
 use crate::text::{counted, refused};
-use crate::{calls, sys, Answer, Channel, Refusal, Source};
+use crate::{calls, sys, words, Answer, Channel, Refusal, Source, Step};
 use std::error::Error;
 use std::fmt;
 
@@ -59,62 +59,76 @@ pub enum WaitError {
     },
 }
 
-/// Does the steps one after another, up to the first that is refused.
+/// Does the steps one after another, up to the first that is refused. One allocation a call, for the words of the
+/// steps; [`words::run`] takes them ready.
 ///
 /// ```
-/// use st9::{run, Answer, Done, Refusal, RunError, Step};
+/// use st9::{register, run, Refusal, RunError, Step};
 ///
 /// let mut image = [0; st9::IMAGE_LENGTH];
-/// let words = [Step::Return.word(), Step::Read { register: 256 }.word()];
-/// let done = Done { steps: 1, last: Some(Answer::Returned) };
-/// assert_eq!(run(&mut image, &[], &words[..1]), Ok(done));
-/// let refused = RunError::Step { refusal: Refusal::Register, index: 1 };
-/// assert_eq!(run(&mut image, &[], &words), Err(refused));
+/// let steps = [Step::write(register::EIMR, 0x14), Step::Return, Step::Read { register: 256 }];
+/// let done = run(&mut image, &[], &steps[..2])?;
+/// assert_eq!(done.to_string(), "done: 2 steps, last answer: returned");
+/// let refused = RunError::Step { refusal: Refusal::Register, index: 2 };
+/// assert_eq!(run(&mut image, &[], &steps), Err(refused));
+/// # Ok::<(), RunError>(())
 /// ```
-pub fn run(image: &mut [u8], channels: &[Channel], words: &[u64]) -> Result<Done, RunError> {
-    let flat = calls::run(image, channels, words);
-    let refusal = || Refusal::answered(flat.refusal);
-    match flat.kind {
-        sys::REFUSED_CALL => Err(RunError::Call(refusal())),
-        sys::REFUSED_STEP => Err(RunError::Step { refusal: refusal(), index: count(flat.steps) }),
-        kind => Ok(Done {
-            steps: count(flat.steps),
-            last: (kind != sys::NO_STEP).then(|| Answer::told(&flat)),
-        }),
-    }
+pub fn run(image: &mut [u8], channels: &[Channel], steps: &[Step]) -> Result<Done, RunError> {
+    words::run(image, channels, &words::of(steps))
 }
 
 /// Does the steps until the source is acknowledged by an interrupt, or the list ends, or a step is refused, and counts
-/// the arbitrations.
+/// the arbitrations. One allocation a call, for the words of the steps; [`words::wait`] takes them ready.
 ///
 /// ```
-/// use st9::{wait, Refusal, Source, Step, Wait, WaitError};
+/// use st9::{wait, Refusal, Source, Step, WaitError};
 ///
 /// let mut image = [0; st9::IMAGE_LENGTH];
-/// let words = [Step::Arbitrate.word()];
-/// let ended = Wait::Ended { arbitrations: 1 };
-/// assert_eq!(wait(&mut image, &[], Source::INTB1, &words), Ok(ended));
+/// let steps = [Step::Arbitrate];
+/// let waited = wait(&mut image, &[], Source::INTB1, &steps)?;
+/// assert_eq!(waited.to_string(), "not acknowledged, the list ended after 1 arbitration");
 /// let refused = WaitError::Call(Refusal::Number);
-/// assert_eq!(wait(&mut image, &[], Source::channel(0), &words), Err(refused));
+/// assert_eq!(wait(&mut image, &[], Source::channel(0), &steps), Err(refused));
+/// # Ok::<(), WaitError>(())
 /// ```
 pub fn wait(
     image: &mut [u8],
     channels: &[Channel],
     source: Source,
-    words: &[u64],
+    steps: &[Step],
 ) -> Result<Wait, WaitError> {
-    let flat = calls::wait(image, channels, source.0, words);
-    let arbitrations = flat.first;
-    match flat.kind {
-        sys::ACKNOWLEDGED => Ok(Wait::Acknowledged { arbitrations }),
-        sys::ENDED => Ok(Wait::Ended { arbitrations }),
-        sys::REFUSED_CALL => Err(WaitError::Call(Refusal::answered(flat.refusal))),
-        sys::REFUSED_STEP => Err(WaitError::Step {
-            refusal: Refusal::answered(flat.refusal),
-            index: count(flat.steps),
-            arbitrations,
-        }),
-        kind => calls::foreign("the kind of a wait report", kind),
+    words::wait(image, channels, source, &words::of(steps))
+}
+
+impl Done {
+    /// A run's answer.
+    pub(crate) fn told(flat: &sys::Answer) -> Result<Done, RunError> {
+        let refusal = || Refusal::answered(flat.refusal);
+        let steps = count(flat.steps);
+        match flat.kind {
+            sys::REFUSED_CALL => Err(RunError::Call(refusal())),
+            sys::REFUSED_STEP => Err(RunError::Step { refusal: refusal(), index: steps }),
+            sys::NO_STEP => Ok(Done { steps, last: None }),
+            _ => Ok(Done { steps, last: Some(Answer::told(flat)) }),
+        }
+    }
+}
+
+impl Wait {
+    /// A wait report's answer.
+    pub(crate) fn told(flat: &sys::Answer) -> Result<Wait, WaitError> {
+        let arbitrations = flat.first;
+        match flat.kind {
+            sys::ACKNOWLEDGED => Ok(Wait::Acknowledged { arbitrations }),
+            sys::ENDED => Ok(Wait::Ended { arbitrations }),
+            sys::REFUSED_CALL => Err(WaitError::Call(Refusal::answered(flat.refusal))),
+            sys::REFUSED_STEP => Err(WaitError::Step {
+                refusal: Refusal::answered(flat.refusal),
+                index: count(flat.steps),
+                arbitrations,
+            }),
+            kind => calls::foreign("the kind of a wait report", kind),
+        }
     }
 }
 

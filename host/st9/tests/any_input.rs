@@ -62,8 +62,21 @@ impl Random {
         (0..self.below(12)).map(|_| self.word()).collect()
     }
 
+    /// Any image, channel list, source and words; every second time such that the premises of a bound can hold.
+    fn asked(&mut self) -> Asked {
+        let source = Source(self.below(22) as u32);
+        let (image, channels, words) = (self.image(), self.channels(), self.words());
+        let mut asked = Asked { image, channels, source, words };
+        if self.below(2) == 0 {
+            meet_premises(&mut asked.image);
+            asked.channels.clear();
+            asked.words = self.waiting();
+        }
+        asked
+    }
+
     /// Edges and arbitrations, a return after each arbitration, as demand 3 speaks of them; in every second list reads
-    /// and writes too, of the register file or of EIPR.
+    /// and writes too, of the register file or of EIPR. The list ends anywhere among these.
     fn waiting(&mut self) -> Vec<u64> {
         let mut words = Vec::new();
         let is_handler = self.below(2) == 0;
@@ -72,14 +85,23 @@ impl Random {
             words.push(Step::Pin { pin, edge: st9::Edge::Falling }.word());
             words.push(Step::Arbitrate.word());
             if is_handler {
-                let register = [10, u32::from(st9::register::EIPR)][self.below(2) as usize];
-                words.push(Step::Read { register }.word());
-                words.push(Step::Write { register, value: self.next() as u8 }.word());
+                let register = [10, st9::register::EIPR][self.below(2) as usize];
+                words.push(Step::read(register).word());
+                words.push(Step::write(register, self.next() as u8).word());
             }
             words.push(Step::Return.word());
         }
+        words.truncate(self.below(words.len() as u64 + 1) as usize);
         words
     }
+}
+
+/// What a call is given.
+struct Asked {
+    image: Vec<u8>,
+    channels: Vec<Channel>,
+    source: Source,
+    words: Vec<u64>,
 }
 
 /// Interrupts enabled, concurrent mode, CPL 7, top level disabled and not in service; page 0, every pin falling.
@@ -116,7 +138,7 @@ fn a_run_is_its_steps_one_by_one() {
         let start = random.image();
         let (channels, words) = (random.channels(), random.words());
         let (mut whole, mut single) = (start.clone(), start);
-        let done = st9::run(&mut whole, &channels, &words);
+        let done = st9::words::run(&mut whole, &channels, &words);
         assert_eq!(done, one_by_one(&mut single, &channels, &words));
         assert_eq!(whole, single);
         if let Err(RunError::Call(refusal) | RunError::Step { refusal, .. }) = done {
@@ -131,19 +153,12 @@ fn a_wait_keeps_to_its_bounds() {
     let mut random = Random(0x0092_0250);
     let (mut within, mut by_handlers, mut changed) = (0, 0, 0);
     for _ in 0..40_000 {
-        let mut image = random.image();
-        let (mut channels, mut words) = (random.channels(), random.words());
-        let source = Source(random.below(22) as u32);
-        if random.below(2) == 0 {
-            meet_premises(&mut image);
-            channels.clear();
-            words = random.waiting();
-        }
+        let Asked { mut image, channels, source, words } = random.asked();
         let before = image.clone();
-        let demand = st9::bound(&image, &channels, source, &words);
-        let handlers = st9::handler_bound(&image, &channels, source, &words);
+        let demand = st9::words::bound(&image, &channels, source, &words);
+        let handlers = st9::words::handler_bound(&image, &channels, source, &words);
         assert_eq!(image, before);
-        let waited = st9::wait(&mut image, &channels, source, &words);
+        let waited = st9::words::wait(&mut image, &channels, source, &words);
         within += u64::from(is_kept(demand, waited));
         by_handlers += u64::from(is_kept(handlers, waited) && !is_kept(demand, waited));
         changed += u64::from(
@@ -173,6 +188,31 @@ fn is_kept(bound: Result<Bound, Refusal>, waited: Result<Wait, WaitError>) -> bo
         (Ok(Bound::Fails(_)), _) => {}
     }
     false
+}
+
+/// Steps are answered as their words are, whatever stands in the parts of a word that its step does not use.
+#[test]
+fn steps_or_their_words() {
+    let mut random = Random(0x0092_0350);
+    for _ in 0..20_000 {
+        let Asked { image, channels, source, words } = random.asked();
+        let steps: Vec<_> = words.iter().map(|word| Step::of_word(*word)).collect();
+
+        let (mut one, mut other) = (image.clone(), image.clone());
+        let done = st9::run(&mut one, &channels, &steps);
+        assert_eq!(done, st9::words::run(&mut other, &channels, &words));
+        assert_eq!(one, other);
+
+        let (mut one, mut other) = (image.clone(), image.clone());
+        let waited = st9::wait(&mut one, &channels, source, &steps);
+        assert_eq!(waited, st9::words::wait(&mut other, &channels, source, &words));
+        assert_eq!(one, other);
+
+        let demand = st9::bound(&image, &channels, source, &steps);
+        assert_eq!(demand, st9::words::bound(&image, &channels, source, &words));
+        let handlers = st9::handler_bound(&image, &channels, source, &steps);
+        assert_eq!(handlers, st9::words::handler_bound(&image, &channels, source, &words));
+    }
 }
 
 #[test]
