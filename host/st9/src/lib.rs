@@ -1,25 +1,67 @@
-//! The ST92F150's interrupt and DMA registers: a safe wrapper of the proved model.
+//! The ST92F150's interrupt and DMA registers: a safe wrapper of a model that is proved against their rules.
 //!
-//! The caller lends an image of 1,265 bytes and a channel list of up to twelve records. Every image, list, number and
-//! step gets an answer; a bad one is refused with the number of document 01, and then every byte stays as it was.
-//! No function panics, whatever it is given.
+//! The caller lends the registers, an image of 1,265 bytes, and a channel list, and has steps done on them: reads,
+//! writes, triggers, arbitrations, returns, resets. Each answer says what the part does, and prints as a short text.
+//!
+//! "Document 01" is the scope paper: the rules of the part, which docs/PROMISES.md restates one a row. "Demand 3" is
+//! the bound on waiting: over triggers, arbitrations and returns an unmasked pending source above the current level is
+//! acknowledged by arbitration H + E + 1 at the latest, H the unmasked sources outranking it that are pending at the
+//! start, E the triggers of such sources; [`Premise`] has what else it asks. "The handlers' claim" is the same over
+//! lists that also read and write.
+//!
+//! In this example over-temperature is INTB0 and the fan INTC0. The fan fails while the handler of over-temperature
+//! runs. With the steps to come it has a bound where the handler writes EIPR back without its own bit, and none where
+//! it writes 00h.
 //!
 //! ```
-//! use st9::{register, step, Answer, Edge, Effect, Source, Step};
+//! use st9::register::{CICR, EIMR, EIPLR, EIPR, EIVR};
+//! use st9::{cicr, handler_bound, place, step, Edge, Refusal, Source, Step};
 //!
-//! let mut image = [0; st9::IMAGE_LENGTH];
-//! image[st9::place(0, register::CICR)] = 0x97; // IEN = 1, concurrent mode, CPL 7
-//! image[st9::place(0, register::EIMR)] = 0x14; // INTB0 and INTC0 unmasked
-//! image[st9::place(0, register::EIPLR)] = 0xE7; // group B at levels 2 and 3, group C at 4 and 5
-//! image[st9::place(0, register::EIVR)] = 0x46;
+//! fn main() -> Result<(), Refusal> {
+//!     let mut image = [0; st9::IMAGE_LENGTH];
+//!     image[place(0, CICR)] = cicr::IEN | cicr::CPL; // interrupts enabled, concurrent mode, CPL 7
+//!     image[place(0, EIMR)] = 0x14; // INTB0 and INTC0 unmasked
+//!     image[place(0, EIPLR)] = 0xE7; // INTB0 at level 2, INTC0 at level 4
+//!     image[place(0, EIVR)] = 0x46; // vectors from 40h
 //!
-//! let edge = Step::Pin { pin: 2, edge: Edge::Falling };
-//! let raised = Answer::Triggered { maskable: Effect::Raised, tlip: Effect::NotSelected };
-//! assert_eq!(step(&mut image, &[], edge), Ok(raised));
+//!     let (over_temperature, fan) = (Source::INTB0, Source::INTC0);
+//!     let edge = |source: Source| Step::Pin { pin: source.0, edge: Edge::Falling };
+//!     step(&mut image, &[], edge(over_temperature))?;
+//!     let answer = step(&mut image, &[], Step::Arbitrate)?; // its handler starts
+//!     assert_eq!(answer.to_string(), "acknowledged INTB0, level 2, vector 44h");
+//!     let answer = step(&mut image, &[], edge(fan))?;
+//!     assert_eq!(answer.to_string(), "raised");
 //!
-//! let acknowledged = Answer::Interrupt { source: Source::INTB0, level: 2, vector: 0x44 };
-//! assert_eq!(step(&mut image, &[], Step::Arbitrate), Ok(acknowledged));
+//!     let to_come = |kept| [Step::read(EIPR), Step::write(EIPR, kept), Step::Return, Step::Arbitrate];
+//!     let bound = handler_bound(&image, &[], fan, &to_come(0x10))?; // without its own bit
+//!     assert_eq!(bound.to_string(), "by arbitration 1 at the latest, H 0, E 0");
+//!     let bound = handler_bound(&image, &[], fan, &to_come(0x00))?;
+//!     assert_eq!(bound.to_string(), "none: the write at step 1 erases the source's pending bit");
+//!     Ok(())
+//! }
 //! ```
+//!
+//! | Function | What it answers |
+//! |---|---|
+//! | [`step(image, channels, step)`](fn@step) | one step: an [`Answer`] |
+//! | [`run(image, channels, steps)`](fn@run) | steps one after another: [`Done`], with their number and the last answer |
+//! | [`wait(image, channels, source, steps)`](fn@wait) | the steps up to the source's acknowledgement: a [`Wait`], with the arbitrations made |
+//! | [`bound(image, channels, source, steps)`](fn@bound) | by which arbitration it is acknowledged at the latest, or the [`Premise`] that fails: a [`Bound`] by demand 3 |
+//! | [`handler_bound(image, channels, source, steps)`](fn@handler_bound) | the same by the handlers' claim |
+//! | [`view(image, page)`](fn@view) | the sixteen bytes of a page |
+//! | [`place(page, register)`](fn@place) | the byte of an image that a register has |
+//!
+//! [`Step`] has the steps, [`Source`] the sources, [`Channel`] the records of a channel list; [`register`] the numbers
+//! of the registers, [`cicr`], [`eivr`], [`nicr`] and [`idcr`] their bits. [`words`] has `run`, `wait` and both bounds
+//! over words, for lists that are kept and run many times; [`sys`] the C interface as it is.
+//!
+//! Every image, channel list, number and step gets an answer, and no function panics, whatever it is given. A bad one
+//! is refused with one of document 01's seven numbers ([`Refusal`]), and then every byte stays as it was: an image of
+//! another length, a channel list that breaks a rule, a register, pin, record or source that isn't there, a DMA
+//! transfer with memory or with a pointer over 223, a step of unknown kind. A run that is refused at a step leaves the
+//! image as the steps before it did.
+//!
+//! The crate links the archive `target/staticlib/libst9.a`, which `rt staticlib st9` writes in the repository's root.
 
 #![deny(missing_docs)]
 #![deny(unsafe_code)]
