@@ -38,7 +38,7 @@ impl Report<'_> {
     pub fn words(&self) -> String {
         let words = match self.answer {
             Ok(answer) => self.answer_words(answer),
-            Err(refusal) => refused(refusal),
+            Err(refusal) => refusal.with_number(),
         };
         match self.destination() {
             Some(destination) => format!("{words} ({destination})"),
@@ -245,11 +245,6 @@ impl Report<'_> {
             Answer::Reset => object.text("answer", "reset"),
         }
     }
-}
-
-/// A refusal with its number; document 01's words in parentheses.
-pub fn refused(refusal: Refusal) -> String {
-    format!("refused with {} ({refusal})", refusal.number())
 }
 
 /// A number of things: `1 step`, `2 steps`.

@@ -92,27 +92,13 @@ impl Claim {
     /// A premise of its own, without the step.
     fn premise(self, premise: Premise) -> String {
         match (self, premise) {
-            (_, Premise::Changed { basis, .. }) => format!("a write that {}", change(basis)),
             (Claim::Handlers, Premise::OtherStep { .. }) => "a reset".to_string(),
             _ => premise.to_string(),
         }
     }
 }
 
-/// What a write did to what the handlers' claim rests on.
-fn change(basis: Basis) -> &'static str {
-    match basis {
-        Basis::Pending => "erases the source's pending bit",
-        Basis::Mode => "changes the mode (IAM)",
-        Basis::CurrentLevel => "changes the current level (CPL)",
-        Basis::TopLevel => "changes the top level's enables (TLI or TLNM)",
-        Basis::Mask => "changes a source's mask",
-        Basis::DmaEnable => "changes a channel's DMA enable (DM)",
-        Basis::Level => "changes a source's level",
-    }
-}
-
-/// The same as a word of an object.
+/// What the handlers' claim rests on, as a word of an object.
 fn changed(basis: Basis) -> &'static str {
     match basis {
         Basis::Pending => "pending",
@@ -128,21 +114,15 @@ fn changed(basis: Basis) -> &'static str {
 impl Claimed {
     /// The bound, or the premise that fails with the step and its line.
     pub fn words(self, list: List) -> String {
-        let premise = match self.bound {
-            Bound::Within { outranking, triggers, bound } => {
-                return format!(
-                    "by arbitration {bound} at the latest, H {outranking}, E {triggers}"
-                )
-            }
-            Bound::Fails(premise) => premise,
+        let Bound::Fails(premise) = self.bound else {
+            return self.bound.to_string();
         };
         let place = premise.index().map(|index| format!(" at {}", list.place(index)));
         let place = place.unwrap_or_default();
-        let premise = match premise {
-            Premise::Changed { basis, .. } => format!("the write{place} {}", change(basis)),
-            _ => format!("{}{place}", self.claim.premise(premise)),
-        };
-        format!("none: {premise}")
+        match premise {
+            Premise::Changed { basis, .. } => format!("none: the write{place} {}", basis.change()),
+            _ => format!("none: {}{place}", self.claim.premise(premise)),
+        }
     }
 
     /// The same with the claim and how many arbitrations the list has.

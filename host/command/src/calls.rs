@@ -1,6 +1,6 @@
 //! The model as the command calls it, and the calls of a scenario with their answers.
 
-use crate::answers::{counted, refused, Report};
+use crate::answers::{counted, Report};
 use crate::bounds::{bound_json, Bounds, Claim, Claimed, List};
 use crate::number::hex;
 use crate::{Call, Case, Object};
@@ -186,7 +186,7 @@ impl<'a> CallReport<'a> {
             }
             CallAnswer::Bound(Err(refusal))
             | CallAnswer::HandlerBound(Err(refusal))
-            | CallAnswer::View(Err(refusal)) => refused(*refusal),
+            | CallAnswer::View(Err(refusal)) => refusal.with_number(),
         }
     }
 
@@ -288,7 +288,7 @@ impl<'a> CallReport<'a> {
 
 /// A run or a wait refused for what is lent or for its source.
 fn refused_before(refusal: Refusal) -> String {
-    format!("{}, before any step", refused(refusal))
+    format!("{}, before any step", refusal.with_number())
 }
 
 /// A refusal at a step of a list: `refused with 3 at step 2 (line 4; meaning)`.

@@ -31,7 +31,7 @@ mod stored;
 mod why;
 
 pub use account::{Account, Loss, Row};
-pub use answers::{counted, refused, Report};
+pub use answers::{counted, Report};
 pub use bounds::{bound_json, Bounds, Claim, Claimed, List};
 pub use calls::{refused_json, waited_json, waited_words, CallAnswer, CallReport, Made, Model};
 pub use changes::{changes, Change};

@@ -2,8 +2,8 @@
 
 use crate::output::{Outcome, Output};
 use scenario::{
-    changes, counted, folded, note, refused, refused_json, Account, Bit, CallReport, Case,
-    Comparison, End, Event, Followed, Loss, Names, Object, Report, Row, Stored,
+    changes, counted, folded, note, refused_json, Account, Bit, CallReport, Case, Comparison, End,
+    Event, Followed, Loss, Names, Object, Report, Row, Stored,
 };
 
 /// How a case is printed.
@@ -202,7 +202,7 @@ pub fn end_words(followed: &Followed, case: &Case) -> String {
     };
     let place = match followed.end {
         End::Done => return format!("done: {done}{refused_too}"),
-        End::Before(refusal) => return format!("{}, before any step", refused(refusal)),
+        End::Before(refusal) => return format!("{}, before any step", refusal.with_number()),
         End::Step { index, .. } => format!("step {index} (line {})", case.line_of(index)),
         End::Call { line, .. } => format!("line {line}"),
     };

@@ -4,7 +4,7 @@ use crate::arguments::Show;
 use crate::input;
 use crate::output::{Failure, Outcome, Output};
 use crate::print::print_note;
-use scenario::{named_registers, printable, refused, Object, Place, Stored};
+use scenario::{named_registers, printable, Object, Place, Stored};
 use st9::Refusal;
 use std::os::unix::ffi::OsStrExt;
 
@@ -55,6 +55,6 @@ fn print_refused(options: &Show, refusal: Refusal, length: usize, output: &mut O
     let object = || Object::new().text("type", "result").text("result", "refused").refusal(refusal);
     output.line(&match options.json {
         true => object().end(),
-        false => refused(refusal),
+        false => refusal.with_number(),
     });
 }

@@ -6,7 +6,7 @@ use crate::input::{self, Loaded, Start};
 use crate::output::{complain, Failure, Outcome, Output};
 use crate::print::{end_words, failed, print_note};
 use scenario::{
-    counted, follow, note, quoted, refused, Case, Comparison, End, Event, Followed, Object, Proved,
+    counted, follow, note, quoted, Case, Comparison, End, Event, Followed, Object, Proved,
 };
 use std::ffi::OsString;
 use std::os::unix::ffi::OsStrExt;
@@ -123,7 +123,7 @@ impl Told<'_> {
             let line = followed.end.line(case);
             let before = matches!(followed.end, End::Before(_));
             let place = if before { ", before any step" } else { "" };
-            let words = refused(refusal);
+            let words = refusal.with_number();
             output.line(&format!("  {file}:{line}: {words}{place}, and that is not expected"));
             if let Some(note) = self.note() {
                 output.line(&format!("  note: {note}"));

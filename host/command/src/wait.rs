@@ -8,8 +8,8 @@ use crate::print::{print_note, print_rows, print_title};
 use crate::progress::Progress;
 use crate::save::Saved;
 use scenario::{
-    bound_json, folded, follow, note, refused, waited_json, waited_words, Account, Bit, Bounds,
-    Case, Claim, List, Loss, Names, Object, Proved, Row,
+    bound_json, folded, follow, note, waited_json, waited_words, Account, Bit, Bounds, Case, Claim,
+    List, Loss, Names, Object, Proved, Row,
 };
 use st9::{Bound, Premise, Refusal, Source, Wait, WaitError};
 use std::ffi::OsStr;
@@ -96,7 +96,7 @@ impl Report {
         output.line(&format!("wait for {source} (source {}): {waited}", self.source.0));
         let bound = match self.bounds {
             Ok(bounds) => bounds.explained(list(case)),
-            Err(refusal) => refused(refusal),
+            Err(refusal) => refusal.with_number(),
         };
         let later = if self.is_raised_later() {
             let source = self.source.to_string();
@@ -161,7 +161,7 @@ fn list(case: &Case) -> List<'_> {
 /// All sources: a line each of those that something came for, one line with the others.
 fn print_table(case: &Case, account: &Account, reports: &[Report], output: &mut Output) {
     if let Some(Report { waited: Err(WaitError::Call(refusal)), .. }) = reports.first() {
-        return output.line(&format!("{}, before any step", refused(*refusal)));
+        return output.line(&format!("{}, before any step", refusal.with_number()));
     }
     let came =
         sources_with(account, |row| row.at_start || row.raised + row.blocks + row.unselected != 0);
@@ -170,7 +170,7 @@ fn print_table(case: &Case, account: &Account, reports: &[Report], output: &mut 
     let rows = waiting.iter().map(|report| {
         let bound = match report.bounds {
             Ok(bounds) => bounds.words(list(case)),
-            Err(refusal) => refused(refusal),
+            Err(refusal) => refusal.with_number(),
         };
         [case.names.told(report.source), report.waited_words(case), bound]
     });

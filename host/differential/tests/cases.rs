@@ -2,8 +2,8 @@
 
 use differential::Plain;
 use scenario::{
-    counted, follow, refused, Ask, Asked, Call, Case, Comparison, Event, Expected, Followed, Model,
-    Proved, RefusedAt, Scenario,
+    counted, follow, Ask, Asked, Call, Case, Comparison, Event, Expected, Followed, Model, Proved,
+    RefusedAt, Scenario,
 };
 use st9::Effect;
 use std::collections::HashSet;
@@ -89,7 +89,7 @@ impl Start {
             }
         });
         if let Some(refusal) = followed.end.refusal() {
-            let what = format!("{}, and that is not expected", refused(refusal));
+            let what = format!("{}, and that is not expected", refusal.with_number());
             failures.push(self.failure(followed.end.line(&self.case), &what));
         }
         if followed.not_reached != 0 {

@@ -194,8 +194,8 @@ impl Basis {
         }
     }
 
-    /// What a write does to it.
-    fn change(self) -> String {
+    /// What a write does to it: `changes the mode (IAM)`.
+    pub fn change(self) -> String {
         match self {
             Basis::Pending => format!("erases {self}"),
             _ => format!("changes {self}"),

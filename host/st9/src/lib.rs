@@ -55,11 +55,11 @@
 //! of the registers, [`cicr`], [`eivr`], [`nicr`] and [`idcr`] their bits. [`words`] has `run`, `wait` and both bounds
 //! over words, for lists that are kept and run many times; [`sys`] the C interface as it is.
 //!
-//! Every image, channel list, number and step gets an answer, and no function panics, whatever it is given. A bad one
-//! is refused with one of document 01's seven numbers ([`Refusal`]), and then every byte stays as it was: an image of
-//! another length, a channel list that breaks a rule, a register, pin, record or source that isn't there, a DMA
-//! transfer with memory or with a pointer over 223, a step of unknown kind. A run that is refused at a step leaves the
-//! image as the steps before it did.
+//! Every image, channel list, number and step gets an answer, and none makes a function panic: only an archive of
+//! another version can. A bad one is refused with one of document 01's seven numbers ([`Refusal`]), and then every byte
+//! stays as it was: an image of another length, a channel list that breaks a rule, a register, pin, record or source
+//! that isn't there, a DMA transfer with memory or with a pointer over 223, a step of unknown kind. A run that is
+//! refused at a step leaves the image as the steps before it did.
 //!
 //! The crate links the archive `target/staticlib/libst9.a`, which `rt staticlib st9` writes in the repository's root.
 
