@@ -3,12 +3,21 @@
  * fan has no bound, and the answer says which step will erase its alarm.
  *
  *     rt staticlib st9
- *     cc -std=c11 -Iinclude examples/march.c target/staticlib/libst9.a -o march && ./march
+ *     cc -std=c11 -Iinclude examples/march.c include/st9_text.c target/staticlib/libst9.a -o march && ./march
  */
 #include "st9.h"
 
-#include <inttypes.h>
 #include <stdio.h>
+#include <stdlib.h>
+
+static void say(const char *what, st9_answer answer)
+{
+    char text[ST9_TEXT_SIZE];
+    st9_answer_text(answer, text, sizeof text);
+    printf("%-22s%s\n", what, text);
+    if (answer.refusal != 0)
+        exit(1);
+}
 
 int main(void)
 {
@@ -18,30 +27,22 @@ int main(void)
     image[ST9_PAGED(0, ST9_EIPLR)] = 0xE7;  /* INTB0 at level 2, INTC0 at level 4 */
     image[ST9_PAGED(0, ST9_EIVR)] = 0x46;
 
-    const uint64_t words[] = {
+    const uint64_t edges[] = {
         st9_pin_edge(ST9_INTB0, ST9_FALLING),  /* over-temperature */
         st9_arbitrate(),                       /* its handler starts */
         st9_pin_edge(ST9_INTB0, ST9_FALLING),  /* the contact bounces */
-        st9_pin_edge(ST9_INTC0, ST9_FALLING),  /* the fan fails meanwhile */
-        st9_write(ST9_EIPR, 0x00)              /* the handler clears the pending register */
+        st9_pin_edge(ST9_INTC0, ST9_FALLING)   /* the fan fails meanwhile */
     };
-    const size_t to_edge = 4, rest = sizeof words / sizeof words[0] - to_edge;
-    st9_answer answer = st9_run(image, sizeof image, NULL, 0, words, to_edge);
-    if (answer.refusal != 0) {
-        printf("refused with %" PRIu64 "\n", answer.refusal);
-        return 1;
-    }
-    printf("%" PRIu64 " steps done\n", answer.steps);
-    answer = st9_handler_bound(image, sizeof image, NULL, 0, ST9_INTC0, words + to_edge, rest);
-    if (answer.kind == ST9_CHANGED && answer.changed == ST9_CHANGED_PENDING)
-        printf("no bound for the fan: the write at step %" PRIu64 " erases its alarm\n", to_edge + answer.steps);
-    else if (answer.kind == ST9_WITHIN)
-        printf("the fan is acknowledged by arbitration %" PRIu64 " at the latest\n", answer.bound);
-    else
-        printf("no bound for the fan: kind %" PRIu64 "\n", answer.kind);
-    answer = st9_run(image, sizeof image, NULL, 0, words + to_edge, rest);
-    for (unsigned source = ST9_INTA0; source < ST9_FIRST_CHANNEL; source++)
-        if (answer.kind == ST9_WRITTEN && (answer.lost >> source & 1) != 0)
-            printf("the write erased the alarm of source %u\n", source);
+    const uint64_t handler[] = {
+        st9_write(ST9_EIPR, 0x00),  /* the handler clears the pending register */
+        st9_return(),
+        st9_arbitrate()
+    };
+    say("up to the fan's edge", st9_run(image, sizeof image, NULL, 0, edges, 4));
+
+    /* A step's index counts from the first word lent: step 0 is the handler's write. */
+    say("bound of the fan", st9_handler_bound(image, sizeof image, NULL, 0, ST9_INTC0, handler, 3));
+    say("the write", st9_step(image, sizeof image, NULL, 0, handler[0]));
+    say("the rest", st9_run(image, sizeof image, NULL, 0, handler + 1, 2));
     return 0;
 }

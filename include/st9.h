@@ -1,13 +1,25 @@
 /*
- * The ST92F150's interrupt and DMA registers: a model that is proved against its rules, for C (from C11 on) and C++.
- * Link target/staticlib/libst9.a, which `rt staticlib st9` writes.
+ * The ST92F150's interrupt and DMA registers: a model that is proved against its rules, for C (from C11 on) and C++
+ * (from C++11 on). Link target/staticlib/libst9.a, which `rt staticlib st9` writes; st9_text.c beside this file has the
+ * words: cc -Iinclude fan.c include/st9_text.c target/staticlib/libst9.a. The fan's edge and its acknowledgement:
  *
- * The caller lends an image of 1,265 bytes and a channel list. Every image, list, number and step word gets an answer; a bad one is refused
- * with the number of document 01, and then every byte stays as it was.
+ *     uint8_t image[ST9_IMAGE_LENGTH] = {0};
+ *     char text[ST9_TEXT_SIZE];
+ *     image[ST9_CICR] = ST9_IEN | ST9_CPL;             // interrupts enabled, current level 7, the lowest
+ *     image[ST9_PAGED(0, ST9_EIMR)] = 1 << ST9_INTC0;  // the fan is unmasked
+ *     st9_answer_text(st9_step(image, sizeof image, NULL, 0, st9_pin_edge(ST9_INTC0, ST9_FALLING)), text, sizeof text);
+ *     puts(text);                                      // raised
+ *     st9_answer_text(st9_step(image, sizeof image, NULL, 0, st9_arbitrate()), text, sizeof text);
+ *     puts(text);                                      // acknowledged INTC0, level 0, vector 08h
  *
- * What the caller sees to: each pointer has as many readable elements as the length beside it says (the image of st9_step, st9_run and st9_wait
- * writable too), the words are aligned, the image overlaps neither the list nor the words, and nobody else writes any of them during the call.
- * A pointer may be null where its length is 0.
+ * Document 01 is the scope paper; docs/PROMISES.md restates its rules, one a row. Demand 3 is the bound on waiting: an
+ * unmasked pending source above the current level is acknowledged by arbitration H + E + 1 at the latest (enum st9_kind
+ * says what H and E count).
+ * Every image, channel list, number and step word gets an answer; a bad one is refused with the number of document 01,
+ * and then every byte stays as it was.
+ * What the caller sees to: each pointer has as many readable elements as the length beside it says (a text and the
+ * image of st9_step, st9_run and st9_wait writable too), the words are aligned, the image overlaps neither the list nor
+ * the words, and nobody else writes any of them during the call. A pointer may be null where its length is 0.
  */
 #ifndef ST9_H
 #define ST9_H
@@ -18,6 +30,56 @@
 #ifdef __cplusplus
 extern "C" {
 #endif
+
+/* An answer. The names in one union are one number: `kind` says which it is. What a kind does not fill is 0. */
+typedef struct st9_answer {
+    uint64_t kind;     /* enum st9_kind */
+    uint64_t refusal;  /* enum st9_refusal: 0 where nothing was refused */
+    uint64_t steps;    /* the steps done, or the index of a step: the first word lent has 0 */
+    union { uint64_t first, byte, lost, maskable, source, arbitrations, outranking, changed; };
+    union { uint64_t second, tlip, level, ended, triggers; };
+    union { uint64_t third, vector, bound; };
+} st9_answer;
+
+/* One step. A refused one changes nothing. */
+st9_answer st9_step(uint8_t *image, size_t image_length, const uint8_t *channels, size_t channels_length, uint64_t word);
+/* The steps one after another, up to the first that is refused; the image is left as the steps before it left it. */
+st9_answer st9_run(uint8_t *image, size_t image_length, const uint8_t *channels, size_t channels_length,
+                   const uint64_t *words, size_t word_count);
+/* The wait report: the steps up to the acknowledgement of a source by an interrupt, with the arbitrations counted. */
+st9_answer st9_wait(uint8_t *image, size_t image_length, const uint8_t *channels, size_t channels_length,
+                    uint32_t source, const uint64_t *words, size_t word_count);
+/* Demand 3's bound for a source over the steps, or why nothing is promised: more at enum st9_kind. */
+st9_answer st9_bound(const uint8_t *image, size_t image_length, const uint8_t *channels, size_t channels_length,
+                     uint32_t source, const uint64_t *words, size_t word_count);
+/* The same over a handler's steps, its reads and writes included. */
+st9_answer st9_handler_bound(const uint8_t *image, size_t image_length, const uint8_t *channels, size_t channels_length,
+                             uint32_t source, const uint64_t *words, size_t word_count);
+/* The number that the view of a page is refused with (1, then 3), or 0. */
+uint64_t st9_view_number(const uint8_t *image, size_t image_length, uint32_t page);
+/* The sixteen bytes of a page, as stored: a part of the image itself. Null where the view is refused. */
+static inline const uint8_t *st9_view(const uint8_t *image, size_t image_length, uint32_t page);
+
+/* The step words. */
+static inline uint64_t st9_read(uint32_t reg);                          /* a read of register `reg` */
+static inline uint64_t st9_write(uint32_t reg, uint32_t value);         /* a write of a byte to register `reg` */
+static inline uint64_t st9_pin_edge(uint32_t pin, uint32_t direction);  /* an edge (st9_edge) at a pin, 0 to 7 */
+static inline uint64_t st9_watchdog(void);                              /* the watchdog's end of count */
+static inline uint64_t st9_nmi_edge(uint32_t direction);                /* an edge (st9_edge) at NMI */
+static inline uint64_t st9_request(uint32_t record);                    /* a request of a record of the list, from 0 */
+static inline uint64_t st9_arbitrate(void);                             /* an arbitration */
+static inline uint64_t st9_return(void);                                /* a return from an interrupt */
+static inline uint64_t st9_reset(void);                                 /* a reset */
+static inline uint64_t st9_word(uint64_t kind, uint64_t trigger, uint64_t first, uint64_t second);  /* any word */
+
+/* An answer in words, cut where `size` bytes do not hold it and its end; answers the whole length, as snprintf does. */
+size_t st9_answer_text(st9_answer answer, char *text, size_t size);
+const char *st9_kind_name(uint64_t kind);        /* `not pending`, or `unknown kind` */
+const char *st9_refusal_name(uint64_t refusal);  /* document 01's words, or `unknown refusal` */
+const char *st9_source_name(uint64_t source);    /* `INTB0`, `channel 0`, or `no source` */
+
+/* The size of a buffer that holds every text of an answer that the library gives. */
+#define ST9_TEXT_SIZE 160
 
 /* The bytes of an image: R0 to R239, then R240 to R255 of pages 0 to 63, then the top-level-in-service mark. */
 #define ST9_IMAGE_LENGTH 1265
@@ -31,7 +93,10 @@ extern "C" {
 /* The bytes of a record. */
 #define ST9_CHANNEL_BYTES 7
 
-/* The byte of an image that register r (240 to 255) of page p (0 to 63) has. A register below 240 has the byte of its number. */
+/*
+ * The byte of an image that register r (240 to 255) of page p (0 to 63) has. A register below 240 has the byte of its
+ * number.
+ */
 #define ST9_PAGED(p, r) (240 + 16 * (p) + ((r) - 240))
 
 /* The registers that document 01 names, by their number. */
@@ -106,8 +171,8 @@ enum st9_direction {
 };
 
 /*
- * A record of the channel list: a page of 1 to 63, five register numbers of 240 to 255 there, and a direction. A list passes as its bytes, seven a
- * record, and their number: (const uint8_t *)list, sizeof list.
+ * A record of the channel list: a page of 1 to 63, five register numbers of 240 to 255 there, and a direction. A list
+ * passes as its bytes, seven a record, and their number: (const uint8_t *)list, sizeof list.
  */
 typedef struct st9_channel {
     uint8_t page;
@@ -138,24 +203,37 @@ enum st9_effect {
     ST9_MERGED = 2         /* it was 1 already: two triggers, one acknowledgement */
 };
 
-/* What is answered, in the field `kind`; beside each the fields that it fills. Every other field is 0. */
+/*
+ * What is answered, in the field `kind`; beside each the fields that it fills. Every other field is 0.
+ *
+ * st9_bound is demand 3's. H is the number of unmasked sources outranking the source that are pending at the start, E
+ * that of the triggers of such in the list. Steps that are refused are passed over, of whatever kind they are: they
+ * change nothing and count nowhere, so that more lists have a bound than those of triggers, arbitrations and returns
+ * that demand 3 names.
+ *
+ * st9_handler_bound takes reads too, and writes that leave IAM, CPL, TLI, TLNM, every source's mask, level and DMA
+ * enable, and the source's pending bit; no reset, and IEN = 1 at each arbitration. Only the steps up to the
+ * acknowledgement count, and E has also the pending bits of outranking unmasked sources that writes raise. Never above
+ * st9_bound's where both answer one.
+ */
 enum st9_kind {
     /* Of a step, and of the last step of a run that was done; of a run with `steps`, the steps done. */
     ST9_NO_STEP = 0,      /* a run of no steps */
-    ST9_BYTE = 1,         /* a read: byte */
+    ST9_BYTE = 1,         /* a read: byte, absent bits as 0 */
     ST9_WRITTEN = 2,      /* a write: lost, the EIPR bits that it took from 1 to 0 */
-    ST9_TRIGGERED = 3,    /* a trigger: maskable and tlip, what it did to the maskable bit and to TLIP (enum st9_effect) */
+    ST9_TRIGGERED = 3,    /* a trigger: maskable and tlip, what it did to the EIPR or IP bit and to TLIP: st9_effect */
     ST9_NOTHING = 4,      /* an arbitration that found nothing */
-    ST9_TOP_LEVEL = 5,    /* an arbitration that acknowledged the top level: vector */
-    ST9_INTERRUPT = 6,    /* an arbitration that acknowledged an interrupt: source, level, vector */
-    ST9_TRANSFERRED = 7,  /* an arbitration that served DMA: source, ended (1: the block's last byte) */
+    ST9_TOP_LEVEL = 5,    /* an arbitration that acknowledged the top level: vector, 04h */
+    ST9_INTERRUPT = 6,    /* one that acknowledged an interrupt: source, level (0, the highest, to 6), vector */
+    ST9_TRANSFERRED = 7,  /* one that served DMA: source, ended (1: the block's last byte) */
     ST9_RETURNED = 8,     /* a return */
     ST9_RESET = 9,        /* a reset */
     ST9_REFUSED = 10,     /* a step that was refused: refusal */
     /* Of a run, a wait report and the two bounds. */
     ST9_REFUSED_CALL = 11,  /* refused before any step: refusal */
-    ST9_REFUSED_STEP = 12,  /* a run or a wait refused at a step: refusal, steps (its index, from 0); of a wait arbitrations, those made before it */
-    /* Of a wait report. */
+    ST9_REFUSED_STEP = 12,  /* a run or a wait refused at a step: refusal, steps (its index); of a wait arbitrations, */
+                            /* those made before it */
+    /* Of a wait report; a refused arbitration is not counted. */
     ST9_ENDED = 13,         /* the list ended first: arbitrations */
     ST9_ACKNOWLEDGED = 14,  /* the source was acknowledged: arbitrations, the last included */
     /* Of st9_bound and st9_handler_bound: the first premise that fails, */
@@ -166,12 +244,14 @@ enum st9_kind {
     ST9_NOT_PENDING = 19,           /* the source is not pending, */
     ST9_MASKED = 20,                /* is masked, */
     ST9_LEVEL_NOT_ABOVE = 21,       /* or its level is not above the current one */
-    ST9_OTHER_STEP = 22,            /* a step that is no trigger, arbitration or return and is not refused (of st9_handler_bound: a reset): steps, its index */
+    ST9_OTHER_STEP = 22,            /* a step that is no trigger, arbitration or return and is not refused (of */
+                                    /* st9_handler_bound: a reset): steps, its index */
     ST9_INTERRUPTS_DISABLED = 23,   /* an arbitration with IEN = 0: steps, its index */
     /* or, where all hold, */
-    ST9_WITHIN = 24,  /* outranking (H), triggers (E), bound (H + E + 1): acknowledged by that arbitration at the latest, if the list has so many */
+    ST9_WITHIN = 24,  /* outranking (H), triggers (E), bound (H + E + 1): acknowledged by that arbitration at the */
+                      /* latest, if the list has so many */
     /* Of st9_handler_bound alone: one more premise that fails. */
-    ST9_CHANGED = 25  /* a write that changes what the bound rests on: steps, its index; changed, what (enum st9_changed) */
+    ST9_CHANGED = 25  /* a write that changes what the bound rests on: steps, its index; changed, what: st9_changed */
 };
 
 /* What a write changed that the bound of st9_handler_bound rests on; of several the first of these. */
@@ -184,69 +264,6 @@ enum st9_changed {
     ST9_CHANGED_DMA_ENABLE = 6,     /* a record's DM */
     ST9_CHANGED_LEVEL = 7           /* a source's level: EIPLR, or a record's PRL */
 };
-
-/* An answer. The names in one union are one number: `kind` says which it is. */
-typedef struct st9_answer {
-    uint64_t kind;     /* enum st9_kind */
-    uint64_t refusal;  /* enum st9_refusal: 0 where nothing was refused */
-    uint64_t steps;    /* the steps done, or the index of a step, from 0 */
-    union {
-        uint64_t first;         /* any of these */
-        uint64_t byte;          /* the byte read, absent bits as 0 */
-        uint64_t lost;          /* EIPR bits that the write took from 1 to 0 */
-        uint64_t maskable;      /* enum st9_effect, of the EIPR or IP bit */
-        uint64_t source;        /* enum st9_source */
-        uint64_t arbitrations;  /* made, refused ones not counted */
-        uint64_t outranking;    /* H */
-        uint64_t changed;       /* enum st9_changed */
-    };
-    union {
-        uint64_t second;    /* any of these */
-        uint64_t tlip;      /* enum st9_effect, of TLIP */
-        uint64_t level;     /* 0, the highest, to 6 */
-        uint64_t ended;     /* 1 where the block ended, else 0 */
-        uint64_t triggers;  /* E */
-    };
-    union {
-        uint64_t third;   /* any of these */
-        uint64_t vector;  /* of the top level 04h */
-        uint64_t bound;   /* H + E + 1 */
-    };
-} st9_answer;
-
-/* One step. A refused one changes nothing. */
-st9_answer st9_step(uint8_t *image, size_t image_length, const uint8_t *channels, size_t channels_length, uint64_t word);
-
-/* The steps one after another, up to the first that is refused; the image is left as the steps before it left it. */
-st9_answer st9_run(uint8_t *image, size_t image_length, const uint8_t *channels, size_t channels_length, const uint64_t *words, size_t word_count);
-
-/* The wait report: the steps up to the acknowledgement of a source by an interrupt, with the arbitrations counted. */
-st9_answer st9_wait(uint8_t *image, size_t image_length, const uint8_t *channels, size_t channels_length, uint32_t source, const uint64_t *words, size_t word_count);
-
-/*
- * Demand 3's bound for a source over the steps: by which arbitration it is acknowledged at the latest, if they have so many, or why nothing is promised.
- * Steps that are refused are passed over, of whatever kind they are: they change nothing and count nowhere, so that more lists have a bound than those
- * of triggers, arbitrations and returns that demand 3 names. The image is only read.
- */
-st9_answer st9_bound(const uint8_t *image, size_t image_length, const uint8_t *channels, size_t channels_length, uint32_t source, const uint64_t *words, size_t word_count);
-
-/*
- * The same over a handler's steps, its reads and writes included, where each write leaves IAM, CPL, TLI, TLNM, every source's mask, level and DMA
- * enable, and the source's pending bit; no reset, and IEN = 1 at each arbitration. Only the steps up to the acknowledgement count, and E has also
- * the pending bits of outranking unmasked sources that writes raise. Never above st9_bound's where both answer one. The image is only read.
- */
-st9_answer st9_handler_bound(const uint8_t *image, size_t image_length, const uint8_t *channels, size_t channels_length, uint32_t source, const uint64_t *words, size_t word_count);
-
-/* The number that the view of a page is refused with (1, then 3), or 0. */
-uint64_t st9_view_number(const uint8_t *image, size_t image_length, uint32_t page);
-
-/* The sixteen bytes of a page, as stored: a part of the image itself. Null where the view is refused. */
-static inline const uint8_t *st9_view(const uint8_t *image, size_t image_length, uint32_t page)
-{
-    return st9_view_number(image, image_length, page) == 0 ? image + ST9_PAGED(page, 240) : NULL;
-}
-
-/* ---- Step words: kind * 2^48 + trigger * 2^32 + first * 2^8 + second. A field that a step does not use is not looked at. */
 
 /* The kind of a step, 16 bits. Any other is refused with 7. */
 enum st9_step_kind {
@@ -267,70 +284,75 @@ enum st9_trigger_kind {
     ST9_TRIGGER_REQUEST = 3    /* first: a record of the channel list */
 };
 
-/* Any kind, trigger kind, first (24 bits) and second (8 bits); higher bits are cut off. */
+/*
+ * A word: kind * 2^48 + trigger * 2^32 + first (24 bits) * 2^8 + second (8 bits). Higher bits of each are cut off. A
+ * field that a step does not use is not looked at.
+ */
 static inline uint64_t st9_word(uint64_t kind, uint64_t trigger, uint64_t first, uint64_t second)
 {
     return (kind & 0xFFFF) << 48 | (trigger & 0xFFFF) << 32 | (first & 0xFFFFFF) << 8 | (second & 0xFF);
 }
 
-/* A number of a step as a word has room for it: one that does not fit becomes the largest that does, which is refused likewise. */
+/*
+ * A number of a step as a word has room for it: one that does not fit becomes the largest that does, which is refused
+ * likewise.
+ */
 static inline uint64_t st9_fit(uint64_t number, uint64_t largest)
 {
     return number < largest ? number : largest;
 }
 
-/* A read of register `reg`. */
 static inline uint64_t st9_read(uint32_t reg)
 {
     return st9_word(ST9_STEP_READ, 0, st9_fit(reg, 0xFFFFFF), 0);
 }
 
-/* A write of a value to register `reg`. No byte is over 255: such a value makes a word of unknown kind, which is refused with 7. */
+/* No byte is over 255: such a value makes a word of unknown kind, which is refused with 7. */
 static inline uint64_t st9_write(uint32_t reg, uint32_t value)
 {
-    return value > 0xFF ? st9_word(ST9_STEP_UNKNOWN, 0, 0, 0) : st9_word(ST9_STEP_WRITE, 0, st9_fit(reg, 0xFFFFFF), value);
+    if (value > 0xFF)
+        return st9_word(ST9_STEP_UNKNOWN, 0, 0, 0);
+    return st9_word(ST9_STEP_WRITE, 0, st9_fit(reg, 0xFFFFFF), value);
 }
 
-/* An edge at a pin, 0 to 7. */
 static inline uint64_t st9_pin_edge(uint32_t pin, uint32_t direction)
 {
     return st9_word(ST9_STEP_TRIGGER, ST9_TRIGGER_PIN, st9_fit(pin, 0xFFFFFF), st9_fit(direction, 0xFF));
 }
 
-/* The watchdog's end of count. */
 static inline uint64_t st9_watchdog(void)
 {
     return st9_word(ST9_STEP_TRIGGER, ST9_TRIGGER_WATCHDOG, 0, 0);
 }
 
-/* An edge at NMI. */
 static inline uint64_t st9_nmi_edge(uint32_t direction)
 {
     return st9_word(ST9_STEP_TRIGGER, ST9_TRIGGER_NMI, 0, st9_fit(direction, 0xFF));
 }
 
-/* A request of record `record` of the channel list, from 0. */
 static inline uint64_t st9_request(uint32_t record)
 {
     return st9_word(ST9_STEP_TRIGGER, ST9_TRIGGER_REQUEST, st9_fit(record, 0xFFFFFF), 0);
 }
 
-/* An arbitration. */
 static inline uint64_t st9_arbitrate(void)
 {
     return st9_word(ST9_STEP_ARBITRATE, 0, 0, 0);
 }
 
-/* A return from an interrupt. */
 static inline uint64_t st9_return(void)
 {
     return st9_word(ST9_STEP_RETURN, 0, 0, 0);
 }
 
-/* A reset. */
 static inline uint64_t st9_reset(void)
 {
     return st9_word(ST9_STEP_RESET, 0, 0, 0);
+}
+
+static inline const uint8_t *st9_view(const uint8_t *image, size_t image_length, uint32_t page)
+{
+    return st9_view_number(image, image_length, page) == 0 ? image + ST9_PAGED(page, 240) : NULL;
 }
 
 #ifdef __cplusplus

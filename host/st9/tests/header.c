@@ -1,19 +1,38 @@
-/* What a C compiler makes of include/st9.h: the layout, the numbers and the step words, a line each; and one call of each function. */
+/*
+ * What a compiler makes of include/st9.h: the layout, the numbers and the step words, a line each; and one call of each
+ * function.
+ */
 #include "st9.h"
 
+#include <assert.h>
 #include <inttypes.h>
 #include <stdio.h>
 #include <string.h>
 
-_Static_assert(sizeof(st9_channel) == ST9_CHANNEL_BYTES, "a record is its seven bytes");
-_Static_assert(sizeof(st9_answer) == 48, "an answer is six numbers");
-_Static_assert(offsetof(st9_answer, refusal) == 8 && offsetof(st9_answer, steps) == 16, "in this order");
-_Static_assert(offsetof(st9_answer, byte) == 24 && offsetof(st9_answer, lost) == 24 && offsetof(st9_answer, maskable) == 24, "first");
-_Static_assert(offsetof(st9_answer, source) == 24 && offsetof(st9_answer, arbitrations) == 24 && offsetof(st9_answer, outranking) == 24, "first");
-_Static_assert(offsetof(st9_answer, changed) == 24, "first");
-_Static_assert(offsetof(st9_answer, tlip) == 32 && offsetof(st9_answer, level) == 32 && offsetof(st9_answer, ended) == 32, "second");
-_Static_assert(offsetof(st9_answer, triggers) == 32 && offsetof(st9_answer, vector) == 40 && offsetof(st9_answer, bound) == 40, "second, third");
-_Static_assert(offsetof(st9_channel, data) == 5 && offsetof(st9_channel, direction) == 6, "the order of a record");
+static_assert(sizeof(st9_channel) == ST9_CHANNEL_BYTES, "a record is its seven bytes");
+static_assert(offsetof(st9_channel, data) == 5 && offsetof(st9_channel, direction) == 6, "in this order");
+
+#define AT(field, place) static_assert(offsetof(st9_answer, field) == (place), #field)
+static_assert(sizeof(st9_answer) == 48, "an answer is six numbers");
+AT(kind, 0);
+AT(refusal, 8);
+AT(steps, 16);
+AT(first, 24);
+AT(byte, 24);
+AT(lost, 24);
+AT(maskable, 24);
+AT(source, 24);
+AT(arbitrations, 24);
+AT(outranking, 24);
+AT(changed, 24);
+AT(second, 32);
+AT(tlip, 32);
+AT(level, 32);
+AT(ended, 32);
+AT(triggers, 32);
+AT(third, 40);
+AT(vector, 40);
+AT(bound, 40);
 
 static void line(const char *name, uint64_t number)
 {
@@ -109,8 +128,10 @@ static void registers_and_bits(void)
     LINE(ST9_EIPLR);
     LINE(ST9_EIVR);
     LINE(ST9_NICR);
-    line("GCEN, TLIP, TLI, IEN, IAM, CPL", ST9_GCEN << 20 | ST9_TLIP << 16 | ST9_TLI << 12 | ST9_IEN << 8 | ST9_IAM << 4 | ST9_CPL);
-    line("vector, TLTEV, TLIS, IAOS, EWEN", ST9_VECTOR << 16 | ST9_TLTEV << 12 | ST9_TLIS << 8 | ST9_IAOS << 4 | ST9_EWEN);
+    line("GCEN, TLIP, TLI, IEN, IAM, CPL",
+         ST9_GCEN << 20 | ST9_TLIP << 16 | ST9_TLI << 12 | ST9_IEN << 8 | ST9_IAM << 4 | ST9_CPL);
+    line("vector, TLTEV, TLIS, IAOS, EWEN",
+         ST9_VECTOR << 16 | ST9_TLTEV << 12 | ST9_TLIS << 8 | ST9_IAOS << 4 | ST9_EWEN);
     line("TLNM, HL", ST9_TLNM << 8 | ST9_HL);
     line("IP, DM, IM, PRL", ST9_IP << 12 | ST9_DM << 8 | ST9_IM << 4 | ST9_PRL);
 }
@@ -134,7 +155,10 @@ static void words(void)
 
 static void answer(const char *call, st9_answer a)
 {
-    printf("%s: %" PRIu64 " %" PRIu64 " %" PRIu64 " %" PRIu64 " %" PRIu64 " %" PRIu64 "\n", call, a.kind, a.refusal, a.steps, a.first, a.second, a.third);
+    char text[ST9_TEXT_SIZE];
+    st9_answer_text(a, text, sizeof text);
+    printf("%s: %" PRIu64 " %" PRIu64 " %" PRIu64 " %" PRIu64 " %" PRIu64 " %" PRIu64 ", %s\n", call,
+           a.kind, a.refusal, a.steps, a.first, a.second, a.third, text);
 }
 
 /* One record with DMA off, its IP 1 and its interrupt unmasked at level 2; and INTA0 pending at level 0. */
@@ -156,7 +180,8 @@ static void calls(void)
     answer("bound", st9_bound(image, sizeof image, bytes, sizeof list, ST9_FIRST_CHANNEL, list_of_steps, 3));
     const uint64_t handler[] = {st9_read(ST9_EIPR), st9_write(ST9_EIPR, 0), st9_arbitrate()};
     answer("handler bound", st9_handler_bound(image, sizeof image, bytes, sizeof list, ST9_FIRST_CHANNEL, handler, 3));
-    answer("handler bound of what is erased", st9_handler_bound(image, sizeof image, bytes, sizeof list, ST9_INTA0, handler, 3));
+    answer("handler bound of what is erased",
+           st9_handler_bound(image, sizeof image, bytes, sizeof list, ST9_INTA0, handler, 3));
     answer("wait", st9_wait(other, sizeof other, bytes, sizeof list, ST9_FIRST_CHANNEL, list_of_steps, 3));
     answer("step", st9_step(image, sizeof image, bytes, sizeof list, st9_arbitrate()));
     answer("run", st9_run(image, sizeof image, bytes, sizeof list, list_of_steps + 1, 2));

@@ -1,32 +1,13 @@
-//! `include/st9.h` as a C compiler reads it, against the numbers of this crate and of document 01; and the C example.
+//! `include/st9.h` as compilers read it, against the numbers of this crate and of document 01; the words of
+//! `include/st9_text.c`; the example of the header and the March incident.
 
-use std::path::{Path, PathBuf};
+mod compilers;
+
+use std::fs;
 use std::process::Command;
 
+use compilers::{each, printed_by, root, temporary};
 use st9::{sys, Direction, Edge, Refusal, Source};
-
-fn root() -> PathBuf {
-    Path::new(env!("CARGO_MANIFEST_DIR")).join("../..")
-}
-
-/// What a C program prints, compiled with every warning an error and linked with the archive.
-fn printed_by(source: &Path, name: &str) -> String {
-    let program = Path::new(env!("CARGO_TARGET_TMPDIR")).join(name);
-    let compiled = Command::new("cc")
-        .args(["-std=c11", "-Wall", "-Wextra", "-Wpedantic", "-Werror"])
-        .arg("-I")
-        .arg(root().join("include"))
-        .arg(source)
-        .arg(root().join("target/staticlib/libst9.a"))
-        .arg("-o")
-        .arg(&program)
-        .status()
-        .expect("cc is run");
-    assert!(compiled.success(), "cc refused {}", source.display());
-    let output = Command::new(&program).output().expect("the program is run");
-    assert!(output.status.success(), "{name} ended with {}", output.status);
-    String::from_utf8(output.stdout).expect("it prints text")
-}
 
 /// A word by its fields.
 const fn word(kind: u64, trigger: u64, first: u64, second: u64) -> u64 {
@@ -147,17 +128,17 @@ const WORDS: [(&str, u64); 13] = [
     ("reset", word(5, 0, 0, 0)),
 ];
 
-/// Kind, refusal, steps and values by the table of the header, worked out from document 01.
+/// Kind, refusal, steps and values by the table of the header, worked out from document 01; and the words.
 const CALLS: &str = "\
-bound: 24 0 0 1 0 2
-handler bound: 24 0 0 1 0 2
-handler bound of what is erased: 25 0 1 1 0 0
-wait: 14 0 0 2 0 0
-step: 6 0 0 0 0 64
-run: 6 0 2 8 2 52
-run of no steps and no list: 0 0 0 0 0 0
-bytes that are no whole record: 10 2 0 0 0 0
-an image that is too short: 10 1 0 0 0 0
+bound: 24 0 0 1 0 2, by arbitration 2 at the latest, H 1, E 0
+handler bound: 24 0 0 1 0 2, by arbitration 2 at the latest, H 1, E 0
+handler bound of what is erased: 25 0 1 1 0 0, none: the write at step 1 erases the source's pending bit
+wait: 14 0 0 2 0 0, acknowledged by arbitration 2
+step: 6 0 0 0 0 64, acknowledged INTA0, level 0, vector 40h
+run: 6 0 2 8 2 52, done: 2 steps, last answer: acknowledged channel 0, level 2, vector 34h
+run of no steps and no list: 0 0 0 0 0 0, done: 0 steps, last answer: none (the list is empty)
+bytes that are no whole record: 10 2 0 0 0 0, refused with 2 (channel list breaks a rule)
+an image that is too short: 10 1 0 0 0 0, refused with 1 (image length is not 1,265)
 view of page 9 384
 view of page 64 is null 1
 its number 3
@@ -171,14 +152,109 @@ fn numbers_words_and_calls() {
     let numbers = numbers.chain(&REGISTERS).chain(&WORDS);
     let mut expected: String = numbers.map(|(name, number)| format!("{name} {number}\n")).collect();
     expected += CALLS;
-    let source = Path::new(env!("CARGO_MANIFEST_DIR")).join("tests/header.c");
-    assert_eq!(printed_by(&source, "header"), expected);
+    let sources = ["host/st9/tests/header.c", "host/st9/tests/alone.c"];
+    each(|compiler| {
+        let program = compiler.program("header", &sources);
+        assert_eq!(printed_by(&program, &[], ""), expected, "{compiler}");
+    });
 }
 
 #[test]
+fn each_file_alone() {
+    each(|compiler| {
+        compiler.object("alone", "host/st9/tests/alone.c");
+        compiler.object("st9_text", "include/st9_text.c");
+    });
+}
+
+/// What the number names as a kind, as a refusal and as a source.
+fn names(number: u64) -> String {
+    let kind = KINDS.iter().find(|kind| kind.1 == number).map(|kind| kind.0);
+    let kind = kind.unwrap_or("unknown kind").replace("ST9_", "").replace('_', " ").to_lowercase();
+    let refusal = match Refusal::from_number(number) {
+        Some(refusal) => refusal.to_string(),
+        None => if number == 0 { "accepted" } else { "unknown refusal" }.to_owned(),
+    };
+    let source = match number {
+        0..=19 => Source(number as u32).to_string(),
+        _ => "no source".to_owned(),
+    };
+    format!("kind {number}: {kind}\nrefusal {number}: {refusal}\nsource {number}: {source}\n")
+}
+
+/// Six numbers a line.
+const LINES: &str = "6 0 0 2 2 68\n6 0 3 2 2 68\n12 3 2 1 0 0\n18446744073709551615 0 0 0 0 0\n";
+
+const TEXTS_OF_LINES: &str = "\
+acknowledged INTB0, level 2, vector 44h
+done: 3 steps, last answer: acknowledged INTB0, level 2, vector 44h
+refused with 3 at step 2, after 1 arbitration (register read or written not modelled or over 255; viewed page over 63)
+kind 18446744073709551615, which st9.h does not have
+";
+
+/// text.c has the expected words, and tries each in buffers of every size.
+#[test]
+fn answers_in_words() {
+    let expected: String = (0..300).chain([1 << 32, u64::MAX]).map(names).collect();
+    each(|compiler| {
+        let program = compiler.program("text", &["host/st9/tests/text.c"]);
+        let counted = printed_by(&program, &[], "");
+        assert_eq!(counted, "139 texts, the longest of any numbers 157 long\n", "{compiler}");
+        assert_eq!(printed_by(&program, &["names"], ""), expected, "{compiler}");
+        assert_eq!(printed_by(&program, &["lines"], LINES), TEXTS_OF_LINES, "{compiler}");
+    });
+}
+
+/// What a program prints that this line compiles in the repository's root.
+fn printed_by_line(line: &str, name: &str) -> String {
+    let program = temporary(name);
+    let mut shell = Command::new("sh");
+    shell.arg("-c").arg(format!("{line} -o \"$0\"")).arg(&program).current_dir(root());
+    assert!(shell.status().expect("sh is run").success(), "{line}");
+    printed_by(&program, &[], "")
+}
+
+/// Eight lines of the header's first comment; those that print say what.
+#[test]
+fn the_example_of_the_header() {
+    let header = fs::read_to_string(root().join("include/st9.h")).expect("the header");
+    let (comment, _) = header.split_once("*/").expect("its first comment");
+    let lines: Vec<_> = comment.lines().filter_map(|line| line.strip_prefix(" *     ")).collect();
+    assert_eq!(lines.len(), 8, "{lines:?}");
+    let said = lines.iter().filter_map(|line| line.strip_prefix("puts(text);"));
+    let said = said.map(|rest| rest.trim_start().strip_prefix("// ").expect("what it prints"));
+    let said: String = said.map(|words| format!("{words}\n")).collect();
+    let includes = "#include \"st9.h\"\n#include <stdio.h>\n";
+    let code = lines.join("\n");
+    let file = temporary("fan.c");
+    fs::write(&file, format!("{includes}int main(void)\n{{\n{code}\nreturn 0;\n}}\n"))
+        .expect("written");
+    let file = file.to_str().expect("a path of text");
+    each(|compiler| {
+        let program = compiler.program("fan", &[file]);
+        assert_eq!(printed_by(&program, &[], ""), said, "{compiler}");
+    });
+    let line = comment.split_once(" cc ").and_then(|(_, line)| line.split_once("libst9.a"));
+    let line = line.expect("how it is compiled").0.replace("fan.c", &format!("'{file}'"));
+    assert_eq!(printed_by_line(&format!("cc {line}libst9.a"), "fan"), said);
+}
+
+const MARCH: &str = "\
+up to the fan's edge  done: 4 steps, last answer: raised
+bound of the fan      none: the write at step 0 erases the source's pending bit
+the write             erased 14h: INTB0, INTC0
+the rest              done: 2 steps, last answer: none
+";
+
+#[test]
 fn the_march_incident_in_c() {
-    let expected = "4 steps done\nno bound for the fan: the write at step 4 erases its alarm\n\
-                    the write erased the alarm of source 2\nthe write erased the alarm of source 4\n";
-    let source = root().join("examples/march.c");
-    assert_eq!(printed_by(&source, "march"), expected);
+    each(|compiler| {
+        let program = compiler.program("march", &["examples/march.c"]);
+        assert_eq!(printed_by(&program, &[], ""), MARCH, "{compiler}");
+    });
+    let source = fs::read_to_string(root().join("examples/march.c")).expect("the example");
+    let mut lines = source.lines().filter_map(|line| line.strip_prefix(" *     cc "));
+    let line = lines.next().and_then(|line| line.strip_suffix(" -o march && ./march"));
+    let line = line.expect("how it is compiled");
+    assert_eq!(printed_by_line(&format!("cc {line}"), "march"), MARCH);
 }
