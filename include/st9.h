@@ -42,7 +42,8 @@ typedef struct st9_answer {
 } st9_answer;
 
 /* One step. A refused one changes nothing. */
-st9_answer st9_step(uint8_t *image, size_t image_length, const uint8_t *channels, size_t channels_length, uint64_t word);
+st9_answer st9_step(uint8_t *image, size_t image_length, const uint8_t *channels, size_t channels_length,
+                    uint64_t word);
 /* The steps one after another, up to the first that is refused; the image is left as the steps before it left it. */
 st9_answer st9_run(uint8_t *image, size_t image_length, const uint8_t *channels, size_t channels_length,
                    const uint64_t *words, size_t word_count);

@@ -2,12 +2,14 @@
 //! `include/st9_text.c`; the example of the header and the March incident.
 
 mod compilers;
+mod inputs;
 
 use std::fs;
 use std::process::Command;
 
 use compilers::{each, printed_by, root, temporary};
-use st9::{sys, Direction, Edge, Refusal, Source};
+use inputs::{Asked, Random};
+use st9::{sys, Channel, Direction, Edge, Refusal, Source, Step, WaitError};
 
 /// A word by its fields.
 const fn word(kind: u64, trigger: u64, first: u64, second: u64) -> u64 {
@@ -182,26 +184,96 @@ fn names(number: u64) -> String {
     format!("kind {number}: {kind}\nrefusal {number}: {refusal}\nsource {number}: {source}\n")
 }
 
-/// Six numbers a line.
-const LINES: &str = "6 0 0 2 2 68\n6 0 3 2 2 68\n12 3 2 1 0 0\n18446744073709551615 0 0 0 0 0\n";
+/// Answers as six numbers a line, with their words in Rust.
+#[derive(Default)]
+struct Told {
+    numbers: String,
+    words: String,
+    kinds: [u32; KINDS.len()],
+}
 
-const TEXTS_OF_LINES: &str = "\
-acknowledged INTB0, level 2, vector 44h
-done: 3 steps, last answer: acknowledged INTB0, level 2, vector 44h
-refused with 3 at step 2, after 1 arbitration (register read or written not modelled or over 255; viewed page over 63)
-kind 18446744073709551615, which st9.h does not have
-";
+impl Told {
+    fn answer(&mut self, flat: sys::Answer, words: &str) {
+        let sys::Answer { kind, refusal, steps, first, second, third } = flat;
+        self.numbers += &format!("{kind} {refusal} {steps} {first} {second} {third}\n");
+        self.words += &format!("{words}\n");
+        self.kinds[kind as usize] += 1;
+    }
 
-/// text.c has the expected words, and tries each in buffers of every size.
+    /// What every function of the library answers to these.
+    fn answers(&mut self, asked: &Asked) {
+        let Asked { image, channels, source, words } = asked;
+        let image = || image.clone();
+        let first = words.first().copied().unwrap_or_default();
+        let step = st9::step(&mut image(), channels, Step::Word(first));
+        self.answer(flat_step(&mut image(), channels, first), &told(step, Refusal::with_number));
+        let run = st9::words::run(&mut image(), channels, words);
+        self.answer(flat_run(&mut image(), channels, words), &told(run, |error| error.to_string()));
+        let wait = st9::words::wait(&mut image(), channels, *source, words);
+        // The answer of a refused run is that of a wait that made no arbitration.
+        let refused = |error: WaitError| error.to_string().replace(", after 0 arbitrations", "");
+        self.answer(flat_wait(&mut image(), asked), &told(wait, refused));
+        let refused = |refusal: Refusal| format!("{}, before any step", refusal.with_number());
+        let bound = st9::words::bound(&image(), channels, *source, words);
+        self.answer(flat_bound(sys::st9_bound, asked), &told(bound, refused));
+        let bound = st9::words::handler_bound(&image(), channels, *source, words);
+        self.answer(flat_bound(sys::st9_handler_bound, asked), &told(bound, refused));
+    }
+}
+
+fn told<A: ToString, E>(answer: Result<A, E>, refused: impl Fn(E) -> String) -> String {
+    answer.map(|answer| answer.to_string()).unwrap_or_else(refused)
+}
+
+fn bytes(channels: &[Channel]) -> (*const u8, usize) {
+    (channels.as_ptr().cast(), std::mem::size_of_val(channels))
+}
+
+// SAFETY, of all four: pointers and lengths are of live slices, and the image that may change is borrowed mutably.
+fn flat_step(image: &mut [u8], channels: &[Channel], word: u64) -> sys::Answer {
+    let (list, length) = bytes(channels);
+    unsafe { sys::st9_step(image.as_mut_ptr(), image.len(), list, length, word) }
+}
+
+fn flat_run(image: &mut [u8], channels: &[Channel], words: &[u64]) -> sys::Answer {
+    let (list, length) = bytes(channels);
+    let (image, size) = (image.as_mut_ptr(), image.len());
+    unsafe { sys::st9_run(image, size, list, length, words.as_ptr(), words.len()) }
+}
+
+fn flat_wait(image: &mut [u8], asked: &Asked) -> sys::Answer {
+    let (list, length) = bytes(&asked.channels);
+    let (image, size, words) = (image.as_mut_ptr(), image.len(), &asked.words);
+    let source = asked.source.0;
+    unsafe { sys::st9_wait(image, size, list, length, source, words.as_ptr(), words.len()) }
+}
+
+type BoundCall =
+    unsafe extern "C" fn(*const u8, usize, *const u8, usize, u32, *const u64, usize) -> sys::Answer;
+
+fn flat_bound(call: BoundCall, asked: &Asked) -> sys::Answer {
+    let (list, length) = bytes(&asked.channels);
+    let (image, words, source) = (&asked.image, &asked.words, asked.source.0);
+    unsafe { call(image.as_ptr(), image.len(), list, length, source, words.as_ptr(), words.len()) }
+}
+
+/// text.c has the expected words, and tries each in buffers of every size. Those of random calls are Rust's.
 #[test]
 fn answers_in_words() {
     let expected: String = (0..300).chain([1 << 32, u64::MAX]).map(names).collect();
+    let mut random = Random(0x0092_0450);
+    let mut told = Told::default();
+    (0..8_000).for_each(|_| told.answers(&random.asked()));
+    assert!(told.kinds.iter().all(|count| *count > 0), "{:?}", told.kinds);
     each(|compiler| {
         let program = compiler.program("text", &["host/st9/tests/text.c"]);
         let counted = printed_by(&program, &[], "");
         assert_eq!(counted, "139 texts, the longest of any numbers 157 long\n", "{compiler}");
         assert_eq!(printed_by(&program, &["names"], ""), expected, "{compiler}");
-        assert_eq!(printed_by(&program, &["lines"], LINES), TEXTS_OF_LINES, "{compiler}");
+        let words = printed_by(&program, &["lines"], &told.numbers);
+        let same = words.lines().zip(told.words.lines()).find(|(c, rust)| c != rust);
+        assert_eq!(same, None, "{compiler}");
+        assert!(words == told.words, "{compiler}: another number of lines");
     });
 }
 
