@@ -1,9 +1,14 @@
 /*
- * The March incident in a C harness: one write to EIPR erases two alarms, and its answer says which. At the fan's edge the
- * fan has no bound, and the answer says which step will erase its alarm.
+ * The March incident in a C harness: one write to EIPR erases two alarms, and its answer says which. At the fan's edge
+ * the fan has no bound, and the answer says which step will erase its alarm.
  *
  *     rt staticlib st9
  *     cc -std=c11 -Iinclude examples/march.c include/st9_text.c target/staticlib/libst9.a -o march && ./march
+ *
+ *     up to the fan's edge  done: 4 steps, last answer: raised
+ *     bound of the fan      none: the write at step 0 erases the source's pending bit
+ *     the write             erased 14h: INTB0, INTC0
+ *     the rest              done: 2 steps, last answer: none
  */
 #include "st9.h"
 

@@ -17,6 +17,7 @@
  * says what H and E count).
  * Every image, channel list, number and step word gets an answer; a bad one is refused with the number of document 01,
  * and then every byte stays as it was.
+ * A channel list passes as (const uint8_t *)list, sizeof list (st9_channel); with no channel as NULL, 0.
  * What the caller sees to: each pointer has as many readable elements as the length beside it says (a text and the
  * image of st9_step, st9_run and st9_wait writable too), the words are aligned, the image overlaps neither the list nor
  * the words, and nobody else writes any of them during the call. A pointer may be null where its length is 0.
@@ -50,10 +51,10 @@ st9_answer st9_run(uint8_t *image, size_t image_length, const uint8_t *channels,
 /* The wait report: the steps up to the acknowledgement of a source by an interrupt, with the arbitrations counted. */
 st9_answer st9_wait(uint8_t *image, size_t image_length, const uint8_t *channels, size_t channels_length,
                     uint32_t source, const uint64_t *words, size_t word_count);
-/* Demand 3's bound for a source over the steps, or why nothing is promised: more at enum st9_kind. */
+/* Demand 3's bound for a source over triggers, arbitrations and returns, or why there is none: more at st9_kind. */
 st9_answer st9_bound(const uint8_t *image, size_t image_length, const uint8_t *channels, size_t channels_length,
                      uint32_t source, const uint64_t *words, size_t word_count);
-/* The same over a handler's steps, its reads and writes included. */
+/* The same where a handler reads and writes, too: the one to ask then. */
 st9_answer st9_handler_bound(const uint8_t *image, size_t image_length, const uint8_t *channels, size_t channels_length,
                              uint32_t source, const uint64_t *words, size_t word_count);
 /* The number that the view of a page is refused with (1, then 3), or 0. */
@@ -63,7 +64,7 @@ static inline const uint8_t *st9_view(const uint8_t *image, size_t image_length,
 
 /* The step words. */
 static inline uint64_t st9_read(uint32_t reg);                          /* a read of register `reg` */
-static inline uint64_t st9_write(uint32_t reg, uint32_t value);         /* a write of a byte to register `reg` */
+static inline uint64_t st9_write(uint32_t reg, uint32_t value);         /* a write; a value over 255: refused with 7 */
 static inline uint64_t st9_pin_edge(uint32_t pin, uint32_t direction);  /* an edge (st9_edge) at a pin, 0 to 7 */
 static inline uint64_t st9_watchdog(void);                              /* the watchdog's end of count */
 static inline uint64_t st9_nmi_edge(uint32_t direction);                /* an edge (st9_edge) at NMI */
@@ -108,8 +109,9 @@ enum st9_register {
     ST9_EITR = 242,   /* page 0, external interrupt trigger event: bit k is 1 where a rising edge triggers pin k */
     ST9_EIPR = 243,   /* page 0, external interrupt pending: bit k is channel k's */
     ST9_EIMR = 244,   /* page 0, external interrupt mask: bit k is 1 where channel k is unmasked */
-    ST9_EIPLR = 245,  /* page 0, external interrupt priority level: two bits a group, A lowest */
-    ST9_EIVR = 246,   /* page 0, external interrupt vector */
+    ST9_EIPLR = 245,  /* page 0, external interrupt priority level: two bits a group, A lowest; the level of channel */
+                      /* k is twice those of its group plus k modulo 2 */
+    ST9_EIVR = 246,   /* page 0, external interrupt vector: the upper half plus 2k is that of channel k */
     ST9_NICR = 247    /* page 0, nested interrupt control */
 };
 
@@ -178,7 +180,7 @@ enum st9_direction {
 typedef struct st9_channel {
     uint8_t page;
     uint8_t idcr;       /* interrupt and DMA control */
-    uint8_t ivr;        /* interrupt vector */
+    uint8_t ivr;        /* interrupt vector, with bit 0 cleared */
     uint8_t dcpr;       /* DMA counter pointer */
     uint8_t dapr;       /* DMA address pointer */
     uint8_t data;       /* the peripheral's data register */
@@ -208,7 +210,8 @@ enum st9_effect {
  * What is answered, in the field `kind`; beside each the fields that it fills. Every other field is 0.
  *
  * st9_bound is demand 3's. H is the number of unmasked sources outranking the source that are pending at the start, E
- * that of the triggers of such in the list. Steps that are refused are passed over, of whatever kind they are: they
+ * that of the triggers of such in the list; one source outranks another if its level number is smaller or, at equal
+ * level, its source number is. Steps that are refused are passed over, of whatever kind they are: they
  * change nothing and count nowhere, so that more lists have a bound than those of triggers, arbitrations and returns
  * that demand 3 names.
  *
@@ -221,7 +224,8 @@ enum st9_kind {
     /* Of a step, and of the last step of a run that was done; of a run with `steps`, the steps done. */
     ST9_NO_STEP = 0,      /* a run of no steps */
     ST9_BYTE = 1,         /* a read: byte, absent bits as 0 */
-    ST9_WRITTEN = 2,      /* a write: lost, the EIPR bits that it took from 1 to 0 */
+    ST9_WRITTEN = 2,      /* a write: lost, the EIPR bits that it took from 1 to 0; an erased TLIP or IP of a record */
+                          /* is not told: compare the bytes of CICR and IDCR */
     ST9_TRIGGERED = 3,    /* a trigger: maskable and tlip, what it did to the EIPR or IP bit and to TLIP: st9_effect */
     ST9_NOTHING = 4,      /* an arbitration that found nothing */
     ST9_TOP_LEVEL = 5,    /* an arbitration that acknowledged the top level: vector, 04h */
@@ -236,7 +240,8 @@ enum st9_kind {
                             /* those made before it */
     /* Of a wait report; a refused arbitration is not counted. */
     ST9_ENDED = 13,         /* the list ended first: arbitrations */
-    ST9_ACKNOWLEDGED = 14,  /* the source was acknowledged: arbitrations, the last included */
+    ST9_ACKNOWLEDGED = 14,  /* the source was acknowledged: arbitrations, the last included; its step is the last of */
+                            /* so many arbitrations in the list */
     /* Of st9_bound and st9_handler_bound: the first premise that fails, */
     ST9_NESTED = 15,                /* nested mode (IAM = 1) */
     ST9_DMA_ENABLED = 16,           /* a record has DM = 1 */

@@ -22,7 +22,8 @@ pub enum Answer {
     Byte(u8),
     /// A write.
     Written {
-        /// The EIPR bits that the write took from 1 to 0: pending alarms that it erased.
+        /// The EIPR bits that the write took from 1 to 0: pending alarms that it erased. An erased TLIP or IP of a
+        /// record is not among them: compare the bytes of CICR and of its IDCR.
         erased: u8,
     },
     /// A trigger.

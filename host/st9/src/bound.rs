@@ -10,7 +10,8 @@ pub enum Bound {
     /// All premises hold: the source is acknowledged by arbitration `bound` at the latest, if the list has that many,
     /// and is pending until then.
     Within {
-        /// H: the unmasked sources outranking it that are pending at the start.
+        /// H: the unmasked sources outranking it that are pending at the start. A source outranks another if its level
+        /// number is smaller or, at equal level, its own number is.
         outranking: u64,
         /// E: the triggers of unmasked sources outranking it in the list; of a handlers' bound those up to its
         /// acknowledgement, and the pending bits of such sources that writes raise.
@@ -78,8 +79,9 @@ pub enum Basis {
 }
 
 /// By which arbitration of the list the source is acknowledged at the latest, or the first premise of demand 3 that
-/// fails. Refused with 1, 2 or 4 as a wait report is. One allocation a call, for the words of the steps;
-/// [`words::bound`] takes them ready.
+/// fails. With reads or writes in the list ask [`handler_bound`]. A refused step is passed over, whatever it is: it
+/// changes nothing and counts nowhere. Refused with 1, 2 or 4 as a wait report is. One allocation a call, for the words
+/// of the steps; [`words::bound`] takes them ready.
 ///
 /// ```
 /// use st9::{bound, cicr, place, register, Bound, Premise, Source, Step};

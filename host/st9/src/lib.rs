@@ -15,9 +15,9 @@
 //!
 //! ```
 //! use st9::register::{CICR, EIMR, EIPLR, EIPR, EIVR};
-//! use st9::{cicr, handler_bound, place, step, Edge, Refusal, Source, Step};
+//! use st9::{cicr, handler_bound, place, run, step, Edge, Source, Step};
 //!
-//! fn main() -> Result<(), Refusal> {
+//! fn main() -> Result<(), Box<dyn std::error::Error>> {
 //!     let mut image = [0; st9::IMAGE_LENGTH];
 //!     image[place(0, CICR)] = cicr::IEN | cicr::CPL; // interrupts enabled, concurrent mode, CPL 7
 //!     image[place(0, EIMR)] = 0x14; // INTB0 and INTC0 unmasked
@@ -37,6 +37,9 @@
 //!     assert_eq!(bound.to_string(), "by arbitration 1 at the latest, H 0, E 0");
 //!     let bound = handler_bound(&image, &[], fan, &to_come(0x00))?;
 //!     assert_eq!(bound.to_string(), "none: the write at step 1 erases the source's pending bit");
+//!
+//!     let done = run(&mut image, &[], &to_come(0x10))?;
+//!     assert_eq!(done.to_string(), "done: 4 steps, last answer: acknowledged INTC0, level 4, vector 48h");
 //!     Ok(())
 //! }
 //! ```
@@ -59,7 +62,7 @@
 //! another version can. A bad one is refused with one of document 01's seven numbers ([`Refusal`]), and then every byte
 //! stays as it was: an image of another length, a channel list that breaks a rule, a register, pin, record or source
 //! that isn't there, a DMA transfer with memory or with a pointer over 223, a step of unknown kind. A run that is
-//! refused at a step leaves the image as the steps before it did.
+//! refused at a step leaves the image as the steps before it did; [`RunError`] and [`WaitError`] have its index.
 //!
 //! The crate links the archive `target/staticlib/libst9.a`, which `rt staticlib st9` writes in the repository's root.
 

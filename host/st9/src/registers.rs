@@ -4,19 +4,20 @@
 pub mod register {
     /// Central interrupt control register.
     pub const CICR: u8 = 230;
-    /// Page pointer register.
+    /// Page pointer register: bits 7:2 are the page that R240 to R255 go to.
     pub const PPR: u8 = 234;
     /// Mode register.
     pub const MODER: u8 = 235;
-    /// External interrupt trigger register.
+    /// External interrupt trigger register: bit k is 1 where a rising edge triggers pin k.
     pub const EITR: u8 = 242;
-    /// External interrupt pending register.
+    /// External interrupt pending register: bit k is source k's.
     pub const EIPR: u8 = 243;
-    /// External interrupt mask-bit register.
+    /// External interrupt mask-bit register: bit k is 1 where source k is unmasked.
     pub const EIMR: u8 = 244;
-    /// External interrupt priority level register.
+    /// External interrupt priority level register: two bits a group, A lowest. The level of source k is twice those of
+    /// its group, plus k modulo 2; 0 is the highest.
     pub const EIPLR: u8 = 245;
-    /// External interrupt vector register.
+    /// External interrupt vector register: the upper half plus 2k is the vector of source k.
     pub const EIVR: u8 = 246;
     /// Nested interrupt control register.
     pub const NICR: u8 = 247;

@@ -31,7 +31,7 @@ pub enum RunError {
 /// What a wait report answers.
 #[derive(Clone, Copy, Debug, PartialEq, Eq, Hash)]
 pub enum Wait {
-    /// The source was acknowledged by an interrupt.
+    /// The source was acknowledged by an interrupt, at the last of so many arbitrations in the list.
     Acknowledged {
         /// The arbitrations made, the last included.
         arbitrations: u64,

@@ -8,21 +8,21 @@ use std::fmt;
 pub struct Source(pub u32);
 
 impl Source {
-    /// External channel 0.
+    /// Group A: pin 0, or the watchdog.
     pub const INTA0: Source = Source(0);
-    /// External channel 1.
+    /// Pin 1.
     pub const INTA1: Source = Source(1);
-    /// External channel 2.
+    /// Group B: pin 2.
     pub const INTB0: Source = Source(2);
-    /// External channel 3.
+    /// Pin 3.
     pub const INTB1: Source = Source(3);
-    /// External channel 4.
+    /// Group C: pin 4.
     pub const INTC0: Source = Source(4);
-    /// External channel 5.
+    /// Pin 5.
     pub const INTC1: Source = Source(5);
-    /// External channel 6.
+    /// Group D: pin 6.
     pub const INTD0: Source = Source(6);
-    /// External channel 7.
+    /// Pin 7.
     pub const INTD1: Source = Source(7);
 
     /// The names of the eight external channels, in the order of their numbers.

@@ -325,6 +325,8 @@ fn the_march_incident_in_c() {
         assert_eq!(printed_by(&program, &[], ""), MARCH, "{compiler}");
     });
     let source = fs::read_to_string(root().join("examples/march.c")).expect("the example");
+    let shown = MARCH.lines().all(|line| source.contains(&format!("\n *     {line}\n")));
+    assert!(shown, "its comment shows what it prints");
     let mut lines = source.lines().filter_map(|line| line.strip_prefix(" *     cc "));
     let line = lines.next().and_then(|line| line.strip_suffix(" -o march && ./march"));
     let line = line.expect("how it is compiled");
