@@ -69,6 +69,22 @@ mod tests {
         }
     }
 
+    /// The columns in figures, counted in letters; a line is full to the last.
+    #[test]
+    fn a_line_has_116_columns() {
+        let most = format!("é {} (a)", "b".repeat(107));
+        assert_eq!(folded("é  ", &most), format!("é  {most}"));
+        let more = format!("é {} (a)", "b".repeat(108));
+        assert_eq!(folded("é  ", &more), format!("é  é {}\n   (a)", "b".repeat(108)));
+        let full = format!("none ({} é{} c)", "a".repeat(100), "b".repeat(10));
+        let lines = format!("   ({} é{}\n   c)", "a".repeat(100), "b".repeat(10));
+        assert_eq!(lines.lines().next().map(|line| line.chars().count()), Some(116));
+        assert_eq!(folded("0  ", &full), format!("0  none\n{lines}"));
+        let full = format!("none ({} é{} c)", "a".repeat(100), "b".repeat(11));
+        let lines = format!("   ({}\n   é{} c)", "a".repeat(100), "b".repeat(11));
+        assert_eq!(folded("0  ", &full), format!("0  none\n{lines}"));
+    }
+
     #[test]
     fn an_answer_is_not_broken() {
         let long = "long ".repeat(WIDTH);

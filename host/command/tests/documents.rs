@@ -32,24 +32,113 @@ fn readme_is_short() {
     assert_eq!(long, None);
 }
 
+/// The documents of `docs/`, by their paths.
+fn documents() -> Vec<String> {
+    let files = fs::read_dir(root().join("docs")).expect("docs/");
+    let names = files.map(|file| file.expect("a file").file_name().into_string().expect("a name"));
+    names.filter(|name| name.ends_with(".md")).map(|name| format!("docs/{name}")).collect()
+}
+
 /// Every document is named in README, and opens with whom it is for.
 #[test]
 fn readme_leads_to_every_document() {
     let readme = document("README.md");
-    let files = fs::read_dir(root().join("docs")).expect("docs/");
-    let names = files.map(|file| file.expect("a file").file_name().into_string().expect("a name"));
-    let mut documents = 0;
-    for name in names.map(|name| format!("docs/{name}")) {
+    assert_eq!(documents().len(), 6);
+    for name in documents() {
         assert!(readme.contains(&name), "{name}");
-        if name.ends_with(".md") {
-            let text = document(&name);
-            let opening = text.lines().skip(1).find(|line| !line.is_empty());
-            let opening = opening.expect("a first sentence");
-            assert!(opening.starts_with("For "), "{name}: {opening}");
-            documents += 1;
+    }
+    for name in documents().iter().map(String::as_str).chain(["cases/README.md"]) {
+        let text = document(name);
+        let opening = text.lines().skip(1).find(|line| !line.is_empty());
+        assert!(opening.is_some_and(|line| line.starts_with("For ")), "{name}: {opening:?}");
+    }
+}
+
+/// The paths of the repository that a text names: `docs/GUIDE.md`, `crates/rules/specs/`.
+fn paths(text: &str) -> Vec<&str> {
+    const FOLDERS: [&str; 6] = ["crates/", "docs/", "examples/", "cases/", "host/", "include/"];
+    let of_path = |letter: char| letter.is_ascii_alphanumeric() || "_-./*{}".contains(letter);
+    let words = text.split(|letter| !of_path(letter)).map(|word| word.trim_end_matches('.'));
+    let plain = words.filter(|word| !word.contains(['*', '{']) && !word.contains("NAME"));
+    plain.filter(|word| FOLDERS.iter().any(|folder| word.starts_with(folder))).collect()
+}
+
+/// Whether a path is there, or names a file without what ends its name (`host/st9/tests/header`, `docs/landings/02`).
+fn is_there(path: &str) -> bool {
+    let (folder, start) = path.rsplit_once('/').expect("a folder");
+    let Ok(mut files) = fs::read_dir(root().join(folder)) else { return false };
+    let named = |name: &str| name.strip_prefix(start).map(|end| end.starts_with(['.', '-']));
+    root().join(path).exists()
+        || files.any(|file| {
+            named(&file.expect("a file").file_name().to_string_lossy()).unwrap_or_default()
+        })
+}
+
+#[test]
+fn what_the_documents_name_is_there() {
+    let mut found = 0;
+    for name in documents().iter().map(String::as_str).chain(["README.md", "cases/README.md"]) {
+        for path in paths(&document(name)) {
+            assert!(is_there(path), "{name}: {path}");
+            found += 1;
         }
     }
-    assert_eq!(documents, 6);
+    assert!(found > 100, "{found}");
+}
+
+/// The names in the first column of a document's table with this head.
+fn column(text: &str, head: &str) -> Vec<String> {
+    let (_, table) = text.split_once(&format!("\n| {head} |")).expect("the table");
+    let rows = table.lines().skip(2).take_while(|line| line.starts_with("| "));
+    let cells = rows.filter_map(|line| line.split('|').nth(1));
+    let names = cells.flat_map(|cell| cell.split(','));
+    names.map(|name| name.trim_matches([' ', '`']).to_string()).collect()
+}
+
+#[test]
+fn architecture_has_every_crate_and_every_file_of_definitions() {
+    let architecture = document("docs/ARCHITECTURE.md");
+    let list = document("crates.txt");
+    let mut crates: Vec<_> = list.lines().filter_map(|line| line.split_once(':')).collect();
+    crates.sort_unstable();
+    let mut rows = column(&architecture, "Crate");
+    rows.sort_unstable();
+    assert_eq!(rows, crates.iter().map(|(name, _)| *name).collect::<Vec<_>>());
+    let definitions = document("crates/rules/specs/Lib.antt");
+    let mut files: Vec<_> =
+        definitions.lines().filter_map(|line| line.strip_prefix("pub mod ")).collect();
+    files.sort_unstable();
+    let mut rows = column(&architecture, "File");
+    rows.sort_unstable();
+    assert_eq!(rows, files);
+}
+
+/// Each prototype of the header stands in the reference, and each text of an answer there is one of the tests'.
+#[test]
+fn reference_has_the_functions_and_their_words() {
+    let reference = document("docs/REFERENCE.md");
+    let header = document("include/st9.h");
+    let exported = header.lines().filter_map(|line| {
+        let (_, rest) =
+            line.split_once("st9_answer st9_").or(line.split_once("uint64_t st9_view"))?;
+        line.contains('(').then_some(rest.split('(').next()?)
+    });
+    let names: Vec<_> = exported.collect();
+    assert_eq!(names, ["step", "run", "wait", "bound", "handler_bound", "_number"]);
+    for name in ["step", "run", "wait", "bound", "handler_bound", "view_number"] {
+        assert!(reference.contains(&format!("`st9_{name}`")), "{name}");
+    }
+    let tried = document("host/st9/tests/text.c") + &document("host/st9/tests/answers.rs");
+    let (_, words) = reference.split_once("## Answers in words").expect("the words");
+    let (_, words) = words.split_once("|---|---|").expect("their table");
+    let texts = words.split('`').skip(1).step_by(2);
+    let texts = texts.filter(|text| !text.contains("Refusal") && *text != "Display");
+    let mut found = 0;
+    for part in texts.flat_map(|text| text.split("..")).filter(|part| part.len() > 3) {
+        assert!(tried.contains(part.trim_end_matches([' ', '('])), "{part}");
+        found += 1;
+    }
+    assert!(found > 20, "{found}");
 }
 
 /// The time is that which the script tells a caller who waits.
@@ -127,6 +216,29 @@ fn guide_shows_a_wait() {
     let out = st9_in(&root(), &arguments, b"").with_code(0).out;
     assert!(guide.contains(&format!("./st9 {}", arguments.join(" "))));
     assert!(guide.contains(&shown(&out)), "{out}");
+}
+
+/// How the C example is compiled is said there, and tried by host/st9's tests.
+#[test]
+fn guide_compiles_the_c_example() {
+    let example = document("examples/march.c");
+    let line = example.lines().find_map(|line| line.strip_prefix(" *     cc "));
+    let line = line.expect("how it is compiled");
+    assert!(document("docs/GUIDE.md").contains(&shown(&format!("cc {line}"))), "{line}");
+}
+
+/// What the guide says of a channel is a scenario.
+#[test]
+fn guide_shows_a_channel() {
+    let guide = document("docs/GUIDE.md");
+    let channel = block(&guide, "channel page=9");
+    for words in ["set R240.p9 IM=1 PRL=3", "set PPR page=9", "request 0"] {
+        assert!(guide.contains(&format!("`{words}`")), "{words}");
+    }
+    let set = "set R240.p9 IM=1 PRL=3\nset PPR page=9\n";
+    let scenario = format!("image zero\n{channel}{set}request 0\nexpect raised CH0\n");
+    let ran = st9(&["test", "-"], &format!("{scenario}read R240\nexpect byte 2Bh\n"));
+    ran.with_code(0);
 }
 
 #[test]

@@ -159,6 +159,9 @@ fn the_table_tells_the_claims() {
     let heads = "set EIPR 14h\nset EIMR 14h\n";
     let table = |steps: &str| {
         let ran = st9(&["wait", "-"], &format!("{START}{heads}{steps}")).with_code(0);
+        let head = ran.out.lines().next().expect("a head").split_whitespace();
+        let words = "source wait bound (if the list has so many arbitrations)";
+        assert_eq!(head.collect::<Vec<_>>().join(" "), words);
         ran.out.lines().filter(|line| line.starts_with("INT")).map(String::from).collect::<Vec<_>>()
     };
     let ends = |rows: Vec<String>, ends: [&str; 2]| {
@@ -214,4 +217,7 @@ fn a_source_that_is_raised_later() {
         &format!("{bound} {later}"),
     );
     assert_report(&format!("{start}arbitrate\n"), NEVER, bound);
+    let named = format!("{start}name OVERTEMP INTB0\nedge INTB0 falling\narbitrate\n");
+    let ran = st9(&["wait", "-", "--source", "INTB0"], &named).with_code(0);
+    assert!(ran.out.contains("(`bound OVERTEMP` in the scenario"), "{}", ran.out);
 }

@@ -142,15 +142,22 @@ static void words(void)
     line("read of a number that is too large", st9_read(UINT32_MAX));
     line("write", st9_write(ST9_EIMR, 0xFF));
     line("write of no byte", st9_write(ST9_EIMR, 0x100));
+    line("write of a number that is too large", st9_write(UINT32_MAX, 1));
     line("pin edge", st9_pin_edge(ST9_INTB0, ST9_RISING));
     line("pin edge of a direction that is too large", st9_pin_edge(ST9_INTB0, 256));
+    line("pin edge of a number that is too large", st9_pin_edge(UINT32_MAX, ST9_RISING));
     line("watchdog", st9_watchdog());
     line("nmi edge", st9_nmi_edge(ST9_RISING));
+    line("nmi edge of a direction that is too large", st9_nmi_edge(256));
     line("request", st9_request(11));
     line("request of a number that is too large", st9_request(UINT32_MAX));
     line("arbitrate", st9_arbitrate());
     line("return", st9_return());
     line("reset", st9_reset());
+    line("a kind that is too large", st9_word(0x10002, 0, 0, 0));
+    line("a trigger that is too large", st9_word(2, 0x10003, 0, 0));
+    line("a first that is too large", st9_word(2, 3, 0x1000004, 0));
+    line("a second that is too large", st9_word(2, 3, 4, 0x105));
 }
 
 static void answer(const char *call, st9_answer a)
@@ -191,6 +198,8 @@ static void calls(void)
     line("view of page 9", (uint64_t)(st9_view(image, sizeof image, 9) - image));
     line("view of page 64 is null", st9_view(image, sizeof image, 64) == NULL);
     line("its number", st9_view_number(image, sizeof image, 64));
+    line("view of a short image is null", st9_view(image, sizeof image - 1, 9) == NULL);
+    line("twice a place by sums", 2 * ST9_PAGED(8 + 1, 239 + 1));
     line("IDCR after", st9_view(image, sizeof image, 9)[0]);
 }
 

@@ -114,20 +114,27 @@ const REGISTERS: [(&str, u64); 13] = [
 ];
 
 /// The step words, by their fields.
-const WORDS: [(&str, u64); 13] = [
+const WORDS: [(&str, u64); 20] = [
     ("read", word(0, 0, 243, 0)),
     ("read of a number that is too large", word(0, 0, 0xFF_FFFF, 0)),
     ("write", word(1, 0, 244, 255)),
     ("write of no byte", word(0xFFFF, 0, 0, 0)),
+    ("write of a number that is too large", word(1, 0, 0xFF_FFFF, 1)),
     ("pin edge", word(2, 0, 2, 1)),
     ("pin edge of a direction that is too large", word(2, 0, 2, 255)),
+    ("pin edge of a number that is too large", word(2, 0, 0xFF_FFFF, 1)),
     ("watchdog", word(2, 1, 0, 0)),
     ("nmi edge", word(2, 2, 0, 1)),
+    ("nmi edge of a direction that is too large", word(2, 2, 0, 255)),
     ("request", word(2, 3, 11, 0)),
     ("request of a number that is too large", word(2, 3, 0xFF_FFFF, 0)),
     ("arbitrate", word(3, 0, 0, 0)),
     ("return", word(4, 0, 0, 0)),
     ("reset", word(5, 0, 0, 0)),
+    ("a kind that is too large", word(2, 0, 0, 0)),
+    ("a trigger that is too large", word(2, 3, 0, 0)),
+    ("a first that is too large", word(2, 3, 4, 0)),
+    ("a second that is too large", word(2, 3, 4, 5)),
 ];
 
 /// Kind, refusal, steps and values by the table of the header, worked out from document 01; and the words.
@@ -144,6 +151,8 @@ an image that is too short: 10 1 0 0 0 0, refused with 1 (image length is not 1,
 view of page 9 384
 view of page 64 is null 1
 its number 3
+view of a short image is null 1
+twice a place by sums 768
 IDCR after 10
 ";
 
