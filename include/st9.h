@@ -13,8 +13,8 @@
  *     puts(text);                                      // acknowledged INTC0, level 0, vector 08h
  *
  * Document 01 is the scope paper; docs/PROMISES.md restates its rules, one a row. Demand 3 is the bound on waiting: an
- * unmasked pending source above the current level is acknowledged by arbitration H + E + 1 at the latest (enum st9_kind
- * says what H and E count).
+ * unmasked pending source above the current level is acknowledged by arbitration H + E + 1 at the latest, if the list
+ * has so many, under the premises that enum st9_kind has, with what H and E count.
  * Every image, channel list, number and step word gets an answer; a bad one is refused with the number of document 01,
  * and then every byte stays as it was.
  * A channel list passes as (const uint8_t *)list, sizeof list (st9_channel); with no channel as NULL, 0.

@@ -52,12 +52,19 @@ impl List<'_> {
         }
     }
 
-    /// How many arbitrations the list has, and whether they may be too few for a bound.
-    fn length(self, bound: u64) -> String {
+    /// How many arbitrations the list has.
+    fn arbitrations(self) -> u64 {
         let is_arbitration = |step: &&StepLine| step.operation.step.word() >> 48 == 3;
-        let has = self.steps.iter().skip(self.from).filter(is_arbitration).count() as u64;
-        let only = if has < bound { "only " } else { "" };
-        format!("the list has {only}{}", counted(has, "arbitration"))
+        self.steps.iter().skip(self.from).filter(is_arbitration).count() as u64
+    }
+
+    /// The same in words, and whether they may be too few for a bound.
+    fn length(self, bound: u64) -> String {
+        match self.arbitrations() {
+            0 => "the list has no arbitration".to_string(),
+            has if has < bound => format!("the list has only {}", counted(has, "arbitration")),
+            has => format!("the list has {}", counted(has, "arbitration")),
+        }
     }
 }
 
@@ -233,7 +240,8 @@ pub fn bound_json(
             .text("result", "within")
             .number("outranking", outranking)
             .number("triggers", triggers)
-            .number("bound", bound),
+            .number("bound", bound)
+            .number("arbitrations", list.arbitrations()),
         Ok(Bound::Fails(premise)) => {
             let index = premise.index().map(|index| list.from + index);
             let line = index.and_then(|index| Some(list.steps.get(index)?.line.into()));

@@ -88,6 +88,10 @@ fn of_words(
     rest: &[u8],
     names: &Names,
 ) -> Result<Statement, Problem> {
+    // What the command prints below a bound, copied with it.
+    if keyword.starts_with(b"(") {
+        return Err(expected(STATEMENTS, first));
+    }
     let mut arguments = [&b""[..]; MOST_WORDS];
     let mut count = 0;
     for word in words(rest) {

@@ -12,6 +12,7 @@ const NAME: &str = "zero, fill BYTE or counted, each with or without a length, o
 const BAD_LINES: &str = "\
 nonsense => 'nonsense': expected STATEMENTS
 arbitrates => 'arbitrates': expected STATEMENTS
+(the handlers' claim; the list has 2 arbitrations; demand 3 does not speak of step 4) => '(the': expected STATEMENTS
 set => the line ends too early: expected PLACE
 set CICR => the line ends too early: expected BYTE
 set CICR 100h => '100h': expected BYTE

@@ -773,8 +773,8 @@ view 1 => refused 3 => bytes 00h 00h 00h 00h 00h 00h 00h 00h 00h 00h 00h 00h 00h
 run => done 1 step => done: 0 steps, last answer: none (the list is empty)
 wait FAN => acknowledged => not acknowledged, the list ended after 0 arbitrations
 bound INTB0 => none: masked => none: the source is not pending
-handler bound FAN => none => by arbitration 1 at the latest, H 0, E 0 (the handlers' claim; the list has only 0 arbitrations)
-bound FAN => none => by arbitration 1 at the latest, H 0, E 0 (demand 3; the list has only 0 arbitrations)
+handler bound FAN => none => by arbitration 1 at the latest, H 0, E 0 (the handlers' claim; the list has no arbitration)
+bound FAN => none => by arbitration 1 at the latest, H 0, E 0 (demand 3; the list has no arbitration)
 read R16 => EIPR 11h => EIPR 10h
 read R16 => CICR CPL=6 => CICR D7h (GCEN 1, TLIP 1, TLI 0, IEN 1, IAM 0, CPL 7)
 read R16 => MARK 1 => MARK 00h

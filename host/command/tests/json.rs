@@ -96,7 +96,7 @@ fn objects_of_bounds() {
     let demand3 = format!(
         r#""fails","premise":"{premise}","step":1,"line":8,"words":"none: {premise} at step 1 (line 8: read EIPR)"}}"#
     );
-    let within = r#""within","outranking":1,"triggers":0,"bound":2,"words":"by arbitration 2 at the latest, H 1, E 0 (the handlers' claim; the list has only 1 arbitration)"}"#;
+    let within = r#""within","outranking":1,"triggers":0,"bound":2,"arbitrations":1,"words":"by arbitration 2 at the latest, H 1, E 0 (the handlers' claim; the list has only 1 arbitration)"}"#;
     let erased = r#""fails","premise":"a write that erases the source's pending bit","changed":"pending","step":2,"line":9,"words":"none: the write at step 2 (line 9: write EIPR 10h) erases the source's pending bit"}"#;
     let handlers = |source| start("handler bound", "handlers", source);
     let bound = |source| format!("{}{demand3}", start("bound", "demand 3", source));

@@ -23,6 +23,9 @@ fn assert_report(scenario: &str, waited: &str, bound: &str) {
 
 /// How many arbitrations a list has, and whether these are fewer than the bound.
 fn length(has: usize, bound: &str) -> String {
+    if has == 0 {
+        return "has no arbitration".to_string();
+    }
     let by = bound.strip_prefix("by arbitration ").and_then(|rest| rest.split(' ').next());
     let only = if by.is_some_and(|by| has < by.parse().expect("a number")) { "only " } else { "" };
     format!("has {only}{has} arbitration{}", if has == 1 { "" } else { "s" })

@@ -282,7 +282,7 @@ fn bounds_of_one_claim() {
     }
     for (claim, name) in [(Claim::Demand3, "demand 3"), (Claim::Handlers, "the handlers' claim")] {
         let claimed = |bound| Claimed { claim, bound };
-        assert_eq!(claimed(WITHIN).explained(list), within(name, "only 0 arbitrations", ""));
+        assert_eq!(claimed(WITHIN).explained(list), within(name, "no arbitration", ""));
         assert_eq!(claimed(WITHIN).words(list), "by arbitration 4 at the latest, H 1, E 2");
         let fails = claimed(Bound::Fails(Premise::Masked));
         assert_eq!(fails.explained(list), "none: the source is masked");

@@ -9,12 +9,20 @@ pub const IMAGE_LENGTH: usize = 1265;
 pub const MARK: usize = 1264;
 
 /// The byte of an image that a register has. The page matters for registers 240 to 255 alone; one over 63 has no
-/// registers in an image, and the byte is then beyond its end.
+/// registers in an image, and the byte is then the one past its end.
+///
+/// ```
+/// use st9::{place, register, IMAGE_LENGTH};
+///
+/// assert_eq!(place(0, register::CICR), 230);
+/// assert_eq!(place(9, 240), 384);
+/// assert_eq!(place(64, 240), IMAGE_LENGTH);
+/// ```
 pub const fn place(page: u8, register: u8) -> usize {
-    if register < 240 {
-        register as usize
-    } else {
-        240 + 16 * page as usize + (register as usize - 240)
+    match (page, register) {
+        (_, 0..=239) => register as usize,
+        (0..=63, _) => 240 + 16 * page as usize + (register as usize - 240),
+        _ => IMAGE_LENGTH,
     }
 }
 

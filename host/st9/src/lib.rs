@@ -1,13 +1,13 @@
 //! The ST92F150's interrupt and DMA registers: a safe wrapper of a model that is proved against their rules.
 //!
 //! The caller lends the registers, an image of 1,265 bytes, and a channel list, and has steps done on them: reads,
-//! writes, triggers, arbitrations, returns, resets. Each answer says what the part does, and prints as a short text.
+//! writes, triggers, arbitrations, returns, resets. Each answer says what the rules give, and prints as a short text.
 //!
 //! "Document 01" is the scope paper: the rules of the part, which docs/PROMISES.md restates one a row. "Demand 3" is
 //! the bound on waiting: over triggers, arbitrations and returns an unmasked pending source above the current level is
-//! acknowledged by arbitration H + E + 1 at the latest, H the unmasked sources outranking it that are pending at the
-//! start, E the triggers of such sources; [`Premise`] has what else it asks. "The handlers' claim" is the same over
-//! lists that also read and write.
+//! acknowledged by arbitration H + E + 1 at the latest, if the list has so many, H the unmasked sources outranking it
+//! that are pending at the start, E the triggers of such sources; [`Premise`] has what else it asks. "The handlers'
+//! claim" is the same over lists that also read, and write what leaves the bound's basis ([`Basis`]).
 //!
 //! In this example over-temperature is INTB0 and the fan INTC0. The fan fails while the handler of over-temperature
 //! runs. With the steps to come it has a bound where the handler writes EIPR back without its own bit, and none where

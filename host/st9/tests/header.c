@@ -139,18 +139,18 @@ static void registers_and_bits(void)
 static void words(void)
 {
     line("read", st9_read(ST9_EIPR));
-    line("read of a number that is too large", st9_read(UINT32_MAX));
+    line("read of a number that is too large", st9_read(0x1000002));
     line("write", st9_write(ST9_EIMR, 0xFF));
     line("write of no byte", st9_write(ST9_EIMR, 0x100));
-    line("write of a number that is too large", st9_write(UINT32_MAX, 1));
+    line("write of a number that is too large", st9_write(0x1000002, 1));
     line("pin edge", st9_pin_edge(ST9_INTB0, ST9_RISING));
     line("pin edge of a direction that is too large", st9_pin_edge(ST9_INTB0, 256));
-    line("pin edge of a number that is too large", st9_pin_edge(UINT32_MAX, ST9_RISING));
+    line("pin edge of a number that is too large", st9_pin_edge(0x1000002, ST9_RISING));
     line("watchdog", st9_watchdog());
     line("nmi edge", st9_nmi_edge(ST9_RISING));
     line("nmi edge of a direction that is too large", st9_nmi_edge(256));
     line("request", st9_request(11));
-    line("request of a number that is too large", st9_request(UINT32_MAX));
+    line("request of a number that is too large", st9_request(0x1000002));
     line("arbitrate", st9_arbitrate());
     line("return", st9_return());
     line("reset", st9_reset());
