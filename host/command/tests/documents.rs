@@ -141,6 +141,31 @@ fn reference_has_the_functions_and_their_words() {
     assert!(found > 20, "{found}");
 }
 
+/// The kinds of steps in the reference are those of the header.
+#[test]
+fn reference_has_the_kinds_of_steps() {
+    let (reference, header) = (document("docs/REFERENCE.md"), document("include/st9.h"));
+    let (_, table) = reference.split_once("\n| Kind | Step |").expect("the table");
+    let rows = table.lines().skip(2).take_while(|line| line.starts_with("| "));
+    let cells = rows.map(|line| line.split('|').map(str::trim).collect::<Vec<_>>());
+    let kinds: Vec<_> = cells.filter(|cells| !cells[1].is_empty()).collect();
+    assert_eq!(kinds.len(), 6);
+    for cells in kinds {
+        let name = cells[2].replace("arbitration", "arbitrate").to_uppercase();
+        assert!(header.contains(&format!("ST9_STEP_{name} = {},", cells[1])), "{cells:?}");
+    }
+}
+
+/// Wherever demand 3 is said, it is the same number.
+#[test]
+fn demand_3_is_h_plus_e_plus_1() {
+    let places = ["README.md", "docs/GUIDE.md", "include/st9.h", "host/st9/src/lib.rs"];
+    for place in places.iter().chain(&["host/command/src/help/usage.txt"]) {
+        let text = document(place).replace("\n * ", " ").replace("\n//! ", " ").replace('\n', " ");
+        assert!(text.contains("arbitration H + E + 1 at the latest"), "{place}");
+    }
+}
+
 /// The time is that which the script tells a caller who waits.
 #[test]
 fn readme_tells_how_long_the_build_takes() {
