@@ -156,13 +156,14 @@ static void put_read(struct writer *to, st9_answer answer)
     put_byte(to, answer.byte);
 }
 
+/* Of TLIP and a record's IP the answer has nothing, so that the text promises nothing. */
 static void put_written(struct writer *to, st9_answer answer)
 {
     const char *before = ": ";
     if (!known_byte(to, "lost", answer.lost))
         return;
     if (answer.lost == 0) {
-        put(to, "written");
+        put(to, "written, nothing erased from EIPR");
         return;
     }
     put(to, "erased ");

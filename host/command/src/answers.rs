@@ -2,10 +2,10 @@
 
 use crate::account::target;
 use crate::names::{Names, Place};
-use crate::number::hex;
 use crate::pending::{Bit, Pending};
 use crate::why::Around;
 use crate::{Object, Operation, StepLine};
+use st9::text::hex;
 use st9::{register, Answer, Channel, Effect, Refusal, Source, Step};
 
 /// A step and its answer, to be told.
@@ -244,13 +244,5 @@ impl Report<'_> {
             Answer::Returned => object.text("answer", "returned"),
             Answer::Reset => object.text("answer", "reset"),
         }
-    }
-}
-
-/// A number of things: `1 step`, `2 steps`.
-pub fn counted(number: u64, thing: &str) -> String {
-    match number {
-        1 => format!("1 {thing}"),
-        _ => format!("{number} {thing}s"),
     }
 }

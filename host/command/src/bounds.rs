@@ -1,9 +1,9 @@
 //! The bounds of a source's wait, in words and as objects: by demand 3, over triggers, arbitrations and returns; by the
 //! handlers' claim, over lists that also read, and write what leaves what the bound rests on.
 
-use crate::answers::counted;
 use crate::calls::Model;
 use crate::{Object, StepLine};
+use st9::text::counted;
 use st9::{Basis, Bound, Channel, Premise, Refusal, Source};
 
 /// What a bound is proved by.

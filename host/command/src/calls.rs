@@ -1,9 +1,10 @@
 //! The model as the command calls it, and the calls of a scenario with their answers.
 
-use crate::answers::{counted, Report};
+use crate::answers::Report;
 use crate::bounds::{bound_json, Bounds, Claim, Claimed, List};
-use crate::number::hex;
 use crate::{Call, Case, Object};
+use st9::text::counted;
+use st9::text::hex;
 use st9::{Answer, Bound, Channel, Done, Refusal, RunError, Source, Step, Wait, WaitError};
 
 /// A model of the part: the proved one, or another to compare it with.

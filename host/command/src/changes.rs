@@ -1,7 +1,7 @@
 //! The registers that differ between two images.
 
-use crate::number::hex;
 use crate::{Names, Object, Place};
+use st9::text::hex;
 use st9::Channel;
 use std::fmt::Write;
 

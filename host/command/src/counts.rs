@@ -1,6 +1,7 @@
 //! What was counted over all cases.
 
-use scenario::{counted, Case, Followed, Object};
+use scenario::{Case, Followed, Object};
+use st9::text::counted;
 
 #[derive(Default)]
 pub struct Counts {

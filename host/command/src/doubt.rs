@@ -2,10 +2,10 @@
 
 use crate::expectation::{Expect, Expected};
 use crate::names::register_name;
-use crate::number::hex;
 use crate::parse::{without_comment, words};
 use crate::statement::{Operation, Statement};
 use crate::{Place, StepLine};
+use st9::text::hex;
 use st9::Step;
 
 /// A byte of two decimal digits where the bits of a register are meant.

@@ -3,9 +3,9 @@
 use crate::calls::{CallAnswer, CallReport};
 use crate::changes::{changes, Change};
 use crate::fields::Bits;
-use crate::number::hex;
 use crate::pending::Bit;
 use crate::{Call, Place, Report};
+use st9::text::hex;
 use st9::{Answer, Bound, Channel, Effect, Premise, Refusal, RunError, Source, Wait, WaitError};
 
 /// An expectation and the words that it was said in.

@@ -1,7 +1,8 @@
 //! The bits of registers by name.
 
 use crate::names::{source, Names, Place, Role};
-use crate::number::{hex, number};
+use crate::number::number;
+use st9::text::hex;
 use st9::{register, Source};
 
 /// A bit or a row of bits of a register.

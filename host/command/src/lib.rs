@@ -31,7 +31,7 @@ mod stored;
 mod why;
 
 pub use account::{Account, Loss, Row};
-pub use answers::{counted, Report};
+pub use answers::Report;
 pub use bounds::{bound_json, Bounds, Claim, Claimed, List};
 pub use calls::{refused_json, waited_json, waited_words, CallAnswer, CallReport, Made, Model};
 pub use changes::{changes, Change};
@@ -43,7 +43,7 @@ pub use follow::{follow, Comparison, End, Event, Followed};
 pub use json::Object;
 pub use names::{named_registers, Names, Place, Role};
 pub use notes::note;
-pub use number::{hex, number, number_32};
+pub use number::{number, number_32};
 pub use parse::statement;
 pub use pending::{Bit, Pending};
 pub use proved::Proved;

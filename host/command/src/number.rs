@@ -23,12 +23,6 @@ fn in_base(digits: &[u8], base: u32) -> Option<u64> {
         sum.checked_mul(u64::from(base))?.checked_add(u64::from(digit))
     })
 }
-
-/// A byte as the data sheet writes it: `0Ah`.
-pub fn hex(byte: u8) -> String {
-    format!("{byte:02X}h")
-}
-
 #[cfg(test)]
 mod tests {
     use super::*;

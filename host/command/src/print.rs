@@ -2,9 +2,10 @@
 
 use crate::output::{Outcome, Output};
 use scenario::{
-    changes, counted, folded, note, refused_json, Account, Bit, CallReport, Case, Comparison, End,
-    Event, Followed, Loss, Names, Object, Report, Row, Stored,
+    changes, folded, note, refused_json, Account, Bit, CallReport, Case, Comparison, End, Event,
+    Followed, Loss, Names, Object, Report, Row, Stored,
 };
+use st9::text::counted;
 
 /// How a case is printed.
 #[derive(Clone, Copy)]

@@ -3,7 +3,7 @@
 use crate::expectation::Expect;
 use crate::fields::Bits;
 use crate::names::{register_name, Place, Role};
-use crate::number::hex;
+use st9::text::hex;
 use st9::{Channel, Edge, Source, Step};
 use std::fmt;
 

@@ -1,7 +1,7 @@
 //! Stored bytes by name and bit.
 
-use crate::number::hex;
 use crate::{Object, Place};
+use st9::text::hex;
 use st9::Channel;
 
 /// A byte of an image and what is stored there.

@@ -5,9 +5,8 @@ use crate::counts::{unexpected, Counts};
 use crate::input::{self, Loaded, Start};
 use crate::output::{complain, Failure, Outcome, Output};
 use crate::print::{end_words, failed, print_note};
-use scenario::{
-    counted, follow, note, quoted, Case, Comparison, End, Event, Followed, Object, Proved,
-};
+use scenario::{follow, note, quoted, Case, Comparison, End, Event, Followed, Object, Proved};
+use st9::text::counted;
 use std::ffi::OsString;
 use std::os::unix::ffi::OsStrExt;
 use std::path::{Path, PathBuf};

@@ -2,8 +2,8 @@
 //! parentheses: they are not the model's answer.
 
 use crate::names::{Names, Place, Role};
-use crate::number::hex;
 use crate::pending::{Bit, Pending};
+use st9::text::hex;
 use st9::{register, Channel, Source, Step};
 
 const TLNM: u8 = 0x80;

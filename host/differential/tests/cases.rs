@@ -2,9 +2,10 @@
 
 use differential::Plain;
 use scenario::{
-    counted, follow, Ask, Asked, Call, Case, Comparison, Event, Expected, Followed, Model, Proved,
+    follow, Ask, Asked, Call, Case, Comparison, Event, Expected, Followed, Model, Proved,
     RefusedAt, Scenario,
 };
+use st9::text::counted;
 use st9::Effect;
 use std::collections::HashSet;
 use std::fs;

@@ -155,11 +155,12 @@ impl fmt::Display for Effect {
     }
 }
 
+/// Of TLIP and a record's IP the answer has nothing, so that the text promises nothing.
 fn written(erased: u8) -> String {
     let lost = (0..8).filter(|position| erased >> position & 1 == 1);
     let names: Vec<_> = lost.map(|position| Source(position).to_string()).collect();
     match erased {
-        0 => "written".to_string(),
+        0 => "written, nothing erased from EIPR".to_string(),
         _ => format!("erased {}: {}", hex(erased), names.join(", ")),
     }
 }

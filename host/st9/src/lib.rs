@@ -81,7 +81,7 @@ mod source;
 mod step;
 #[allow(unsafe_code)]
 pub mod sys;
-mod text;
+pub mod text;
 pub mod words;
 
 pub use answer::{step, Answer, Effect};

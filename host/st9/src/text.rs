@@ -1,14 +1,14 @@
-//! Texts that several answers share.
+//! Texts that several answers share, for those who print more than an answer has.
 
 use crate::Refusal;
 
 /// A byte as the data sheet writes it: `0Ah`.
-pub(crate) fn hex(byte: u8) -> String {
+pub fn hex(byte: u8) -> String {
     format!("{byte:02X}h")
 }
 
 /// A number of things: `1 step`, `2 steps`.
-pub(crate) fn counted(number: u64, thing: &str) -> String {
+pub fn counted(number: u64, thing: &str) -> String {
     match number {
         1 => format!("1 {thing}"),
         _ => format!("{number} {thing}s"),

@@ -38,7 +38,7 @@ fn steps() {
     assert_texts([
         (Answer::Byte(0x14), "byte 14h"),
         (Answer::Byte(0x0A), "byte 0Ah"),
-        (Answer::Written { erased: 0x00 }, "written"),
+        (Answer::Written { erased: 0x00 }, "written, nothing erased from EIPR"),
         (Answer::Written { erased: 0x14 }, "erased 14h: INTB0, INTC0"),
         (Answer::Written { erased: 0x80 }, "erased 80h: INTD1"),
         (

@@ -30,7 +30,7 @@ static const struct row steps[] = {
     {ST9_BYTE, 0, 0, 0x63, 0, 0, "byte 63h"},
     {ST9_BYTE, 0, 0, 0x82, 0, 0, "byte 82h"},
     {ST9_BYTE, 0, 0, 0xFF, 0, 0, "byte FFh"},
-    {ST9_WRITTEN, 0, 0, 0, 0, 0, "written"},
+    {ST9_WRITTEN, 0, 0, 0, 0, 0, "written, nothing erased from EIPR"},
     {ST9_WRITTEN, 0, 0, 0x14, 0, 0, "erased 14h: INTB0, INTC0"},
     {ST9_WRITTEN, 0, 0, 0x01, 0, 0, "erased 01h: INTA0"},
     {ST9_WRITTEN, 0, 0, 0x02, 0, 0, "erased 02h: INTA1"},
@@ -86,7 +86,7 @@ static const struct row sources[] = {
 static const struct row runs[] = {
     {ST9_NO_STEP, 0, 0, 0, 0, 0, "done: 0 steps, last answer: none (the list is empty)"},
     {ST9_BYTE, 0, 1, 0x14, 0, 0, "done: 1 step, last answer: byte 14h"},
-    {ST9_WRITTEN, 0, 2, 0, 0, 0, "done: 2 steps, last answer: written"},
+    {ST9_WRITTEN, 0, 2, 0, 0, 0, "done: 2 steps, last answer: written, nothing erased from EIPR"},
     {ST9_WRITTEN, 0, 3, 0x14, 0, 0, "done: 3 steps, last answer: erased 14h: INTB0, INTC0"},
     {ST9_TRIGGERED, 0, 4, 1, 0, 0, "done: 4 steps, last answer: raised"},
     {ST9_NOTHING, 0, 9, 0, 0, 0, "done: 9 steps, last answer: none"},
