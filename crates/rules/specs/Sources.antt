@@ -16,7 +16,7 @@ use Rattle.rules.specs.Channels.{recordAt, IP, DM, IM, PRL, listOk}
 unfoldable pub sources : List Channel → ℕ
 sources cs = 8 + length cs
 
--- the same, with a source that is there
+-- what is lent is accepted (Channels), and a source is there
 abbrev pub AcceptedSource : Image → List Channel → ℕ → Type 0
 AcceptedSource m cs source = (length m ≡ imageLength) × (listOk cs ≡ true) × (source < sources cs)
 

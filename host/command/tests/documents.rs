@@ -2,6 +2,7 @@
 
 mod support;
 
+use std::collections::HashMap;
 use std::fs;
 use support::{folder, root, st9, st9_in};
 
@@ -84,6 +85,61 @@ fn what_the_documents_name_is_there() {
         }
     }
     assert!(found > 100, "{found}");
+}
+
+/// The text of the definitions and proofs of each name: `Demand3` has one in `specs/` and one in `proofs/`.
+fn definitions() -> HashMap<String, String> {
+    let mut texts: HashMap<String, String> = HashMap::new();
+    let mut folders = vec![root().join("crates")];
+    while let Some(folder) = folders.pop() {
+        for file in fs::read_dir(folder).expect("a folder").map(|file| file.expect("a file").path())
+        {
+            if file.is_dir() {
+                folders.push(file);
+            } else if file.extension().is_some_and(|end| end == "antt") {
+                let name = file.file_stem().expect("a name").to_string_lossy().into_owned();
+                *texts.entry(name).or_default() += &fs::read_to_string(file).expect("text");
+            }
+        }
+    }
+    texts
+}
+
+/// What a document cites as File `name`, `other` (why), `third` .. `last`.
+fn cited(text: &str) -> Vec<(&str, &str)> {
+    let parts: Vec<_> = text.split('`').collect();
+    let mut cited = Vec::new();
+    let mut file = None;
+    for pair in parts.chunks_exact(2) {
+        let (before, name) = (pair[0], pair[1]);
+        let between = before.trim().trim_end_matches(',');
+        let same = before.starts_with([',', ' ']) && ["", "and", ".."].contains(&between)
+            || before.starts_with(" (") && between.ends_with(')');
+        if !same {
+            let word =
+                before.strip_suffix(' ').and_then(|text| text.rsplit([' ', '|', '(']).next());
+            file = word.filter(|word| word.starts_with(|first: char| first.is_ascii_uppercase()));
+        }
+        cited.extend(file.zip(name.split(' ').next()));
+    }
+    cited
+}
+
+/// The definitions and laws that the reviewer's map names stand in the files that it names.
+#[test]
+fn what_the_map_cites_is_there() {
+    let texts = definitions();
+    let of_name = |letter: char| letter.is_alphanumeric() || "-_".contains(letter);
+    let mut found = 0;
+    for document in ["docs/PROMISES.md", "docs/EDITS.md"].map(document) {
+        for (file, name) in cited(&document) {
+            let Some(text) = texts.get(file) else { continue };
+            let there = text.split(|letter| !of_name(letter)).any(|word| word == name);
+            assert!(there, "{file} `{name}`");
+            found += 1;
+        }
+    }
+    assert!(found > 600, "{found}");
 }
 
 /// The names in the first column of a document's table with this head.
