@@ -1,105 +1,80 @@
-//! Steps a second of the proved library's `st9_run` beside the plain model's `run`, in one process.
+//! The proved library beside two plain Rust programs of the same job: the model of `host/model`, written from the papers, and `strong`, written for speed.
 //!
-//! Each trace is one call with the whole list of steps on a fresh copy of the same image. The two take turns, round by round, so that both see the same
-//! machine; the best round of each counts. Before that both are called once, and their answers and the images they leave are compared: a difference
-//! ends the program. Nothing is asserted about time. Run it with `cargo run --release -p bench`.
+//! Two tables with a row for each situation: instructions a step, counted by callgrind where `valgrind` is on the PATH, and steps a second. Before
+//! anything is measured all three do every situation, and their answers and the images they leave are compared: a difference ends the program. Nothing
+//! is asserted about counts or times. In `host/`, about 40 seconds for both tables:
+//!
+//! ```text
+//! cargo run --release --offline -p bench
+//! cargo run --release --offline -p bench -- instructions
+//! cargo run --release --offline -p bench -- times
+//! ```
 
+#[cfg(test)]
+mod agreement;
+mod instructions;
+mod shift;
+mod sides;
+mod strong;
+mod times;
 mod traces;
 
-use differential::flat;
-use st9::sys;
-use std::hint::black_box;
-use std::time::{Duration, Instant};
-use traces::Trace;
+use sides::Side;
+use std::env;
+use std::process::ExitCode;
+use traces::{Trace, SITUATIONS};
 
-/// The steps of a trace.
-const STEPS: usize = 30_000;
+/// The width of a table's first column, the situation's name.
+const NAME: usize = 38;
 
-/// The time for the rounds of a trace, and the fewest rounds.
-const TIME: Duration = Duration::from_secs(4);
-const FEWEST_ROUNDS: usize = 5;
+fn main() -> ExitCode {
+    let arguments: Vec<String> = env::args().skip(1).collect();
+    let arguments: Vec<&str> = arguments.iter().map(String::as_str).collect();
+    match arguments[..] {
+        [] => report(true, true),
+        ["instructions"] => report(true, false),
+        ["times"] => report(false, true),
+        [instructions::COUNTED, situation, side, steps] => {
+            instructions::perform(situation, side, steps);
+        }
+        _ => {
+            eprintln!("bench takes no argument for both tables, or one: instructions, times");
+            return ExitCode::from(2);
+        }
+    }
+    ExitCode::SUCCESS
+}
 
-fn main() {
-    let traces = [traces::mixed(STEPS), traces::idle(STEPS), traces::last_record(STEPS)];
-    println!("Steps a second of one call over a whole trace, twelve records; the best round of each, in turns.");
+/// Compares, says what the situations are, and prints the tables that are wanted.
+fn report(instructions: bool, times: bool) {
+    let traces = SITUATIONS.map(|situation| situation());
     for trace in &traces {
         check(trace);
-        let best = measure(trace);
-        report(trace, best);
+        println!("{}: {}", trace.name, trace.note);
+    }
+    if instructions {
+        instructions::report(&traces);
+    }
+    if times {
+        times::report(&traces);
     }
 }
 
-/// Calls the proved library on an image.
-fn run_proved(image: &mut [u8], list: &[u8], words: &[u64]) -> sys::Answer {
-    // SAFETY: the lengths are those of the slices; the image is lent alone.
-    unsafe {
-        sys::st9_run(
-            image.as_mut_ptr(),
-            image.len(),
-            list.as_ptr(),
-            list.len(),
-            words.as_ptr(),
-            words.len(),
-        )
-    }
-}
-
-/// Panics unless both do all the steps, answer the same and leave the same image.
+/// Panics unless all sides do all the steps, answer the same and leave the same image.
 fn check(trace: &Trace) {
-    let (mut proved_image, mut plain_image) = (trace.image.clone(), trace.image.clone());
-    let proved = run_proved(&mut proved_image, &trace.list, &trace.words);
-    let plain = model::run(&mut plain_image, &trace.channels, &trace.words);
-    assert_eq!(proved, flat::run(plain), "{}", trace.name);
-    assert_eq!(proved_image, plain_image, "{}", trace.name);
-    assert_eq!(proved.steps, trace.words.len() as u64, "{}", trace.name);
-}
-
-/// The best times of a trace, and the rounds.
-struct Best {
-    proved: Duration,
-    plain: Duration,
-    rounds: usize,
-}
-
-/// Times both in turns.
-fn measure(trace: &Trace) -> Best {
-    let mut best = Best { proved: Duration::MAX, plain: Duration::MAX, rounds: 0 };
-    let start = Instant::now();
-    while best.rounds < FEWEST_ROUNDS || start.elapsed() < TIME {
-        let proved = timed(trace, |image| {
-            black_box(run_proved(image, &trace.list, &trace.words));
-        });
-        let plain = timed(trace, |image| {
-            black_box(model::run(image, &trace.channels, &trace.words));
-        });
-        best.proved = best.proved.min(proved);
-        best.plain = best.plain.min(plain);
-        best.rounds += 1;
+    let [(proved, image), others @ ..] = Side::ALL.map(|side| {
+        let mut image = trace.image.clone();
+        (side.answers(trace, &mut image), image)
+    });
+    assert!(proved.iter().all(|answer| answer.refusal == 0), "{}", trace.name);
+    for (other, other_image) in others {
+        assert_eq!(other, proved, "{}", trace.name);
+        assert_eq!(other_image, image, "{}", trace.name);
     }
-    best
 }
 
-/// The time of one call on a fresh copy of the image.
-fn timed(trace: &Trace, call: impl Fn(&mut [u8])) -> Duration {
-    let mut image = black_box(trace.image.clone());
-    let start = Instant::now();
-    call(&mut image);
-    let time = start.elapsed();
-    black_box(image);
-    time
-}
-
-/// Prints a trace's figures.
-fn report(trace: &Trace, best: Best) {
-    let steps = trace.words.len() as f64;
-    let (proved, plain) = (best.proved.as_secs_f64(), best.plain.as_secs_f64());
-    println!();
-    println!("{}: {}", trace.name, trace.note);
-    println!("  {} steps, {} rounds", trace.words.len(), best.rounds);
-    for (name, seconds) in [("proved", proved), ("plain", plain)] {
-        let rate = steps / seconds / 1e6;
-        let nanoseconds = seconds / steps * 1e9;
-        println!("  {name:6} {rate:8.2} million steps a second, {nanoseconds:7.1} ns a step");
-    }
-    println!("  proved / plain, in steps a second: {:.2}", plain / proved);
+/// The heads of the columns of a table.
+fn heads(of: &str) -> String {
+    let sides = Side::ALL.map(|side| format!("{:>10}", side.name()));
+    format!("\n{of:NAME$}{}", sides.concat())
 }

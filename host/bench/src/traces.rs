@@ -1,13 +1,23 @@
-//! The traces. None of their steps is refused.
+//! The situations, each a trace whose steps leave it as it is, but the mixed one. None of the steps is refused.
 
-use differential::{generate, Random};
-use model::{paged, word, Answer, Channel, IMAGE_LENGTH};
+use crate::shift::Shift;
+use differential::generate;
+use model::{paged, word, Channel, IMAGE_LENGTH};
+use st9::register::{CICR, EIMR, EIPLR, EIPR, EIVR, PPR};
+use st9::{cicr, idcr, place};
 
-const PPR: u32 = 234;
-const CICR: u32 = 230;
-const EIMR: u32 = 244;
-const EIPLR: u32 = 245;
-const EIVR: u32 = 246;
+/// The steps of a trace that is one run, and of one in single calls.
+const STEPS: usize = 30_000;
+const SINGLE_STEPS: usize = 3_000;
+
+/// How the steps are done.
+#[derive(Clone, Copy)]
+pub enum Calls {
+    /// All in one run.
+    Run,
+    /// Each by a call of its own, which checks the channel list anew.
+    Single,
+}
 
 /// A start and the steps from it.
 pub struct Trace {
@@ -15,12 +25,28 @@ pub struct Trace {
     pub note: String,
     pub image: Vec<u8>,
     pub channels: Vec<Channel>,
+    /// The bytes of the channels.
     pub list: Vec<u8>,
     pub words: Vec<u64>,
+    pub calls: Calls,
 }
 
+/// The rows of the tables.
+pub const SITUATIONS: [fn() -> Trace; 10] = [
+    nothing_requests,
+    all_masked,
+    last_record,
+    all_twenty,
+    read,
+    write,
+    mixed,
+    single_arbitration,
+    single_arbitration_without_records,
+    single_read_without_records,
+];
+
 /// Twelve records, four pages with three each.
-fn channels() -> Vec<Channel> {
+pub fn channels() -> Vec<Channel> {
     let record = |k: u8| {
         let first = 240 + 5 * (k % 3);
         Channel {
@@ -36,59 +62,90 @@ fn channels() -> Vec<Channel> {
     (0..12).map(record).collect()
 }
 
-/// Interrupts enabled at CPL 7, all external channels unmasked, every record without a request, its interrupt unmasked at level 6.
-fn quiet_image(channels: &[Channel]) -> Vec<u8> {
+/// Interrupts enabled at CPL 7 in concurrent mode, all external channels unmasked and none pending, every record with this IDCR.
+fn image_with(channels: &[Channel], idcr: u8) -> Vec<u8> {
     let mut image = vec![0; IMAGE_LENGTH];
-    image[CICR as usize] = 0x97;
-    image[EIMR as usize] = 0xFF;
-    image[EIPLR as usize] = 0xE4;
-    image[EIVR as usize] = 0x46;
+    image[place(0, CICR)] = cicr::GCEN | cicr::IEN | 7;
+    image[place(0, EIMR)] = 0xFF;
+    image[place(0, EIPLR)] = 0xE4;
+    image[place(0, EIVR)] = 0x46;
     for channel in channels {
-        image[paged(channel.page, channel.idcr)] = 0x0E;
+        image[paged(channel.page, channel.idcr)] = idcr;
     }
     image
 }
 
-/// The same with the top level enabled.
-fn shift_image(channels: &[Channel]) -> Vec<u8> {
-    let mut image = quiet_image(channels);
-    image[CICR as usize] = 0xB7;
-    image
+/// The same, every record without a request, its interrupt unmasked at level 6.
+pub fn quiet_image(channels: &[Channel]) -> Vec<u8> {
+    image_with(channels, idcr::IM | 6)
 }
 
-/// A trace for the twelve records.
-fn trace(name: &'static str, note: String, image: Vec<u8>, words: Vec<u64>) -> Trace {
+/// A run with the twelve records.
+fn run(name: &'static str, note: &str, image: Vec<u8>, words: Vec<u64>) -> Trace {
     let channels = channels();
-    Trace { name, note, image, list: generate::bytes(&channels), channels, words }
+    let list = generate::bytes(&channels);
+    Trace { name, note: note.to_string(), image, channels, list, words, calls: Calls::Run }
 }
 
-/// (b) Arbitrations where nothing requests.
-pub fn idle(steps: usize) -> Trace {
-    let note = "arbitrations, interrupts enabled, nothing requests".to_string();
-    let image = quiet_image(&channels());
-    trace("idle", note, image, vec![word::arbitrate(); steps])
+/// A trigger, the arbitration that acknowledges its source, and the return, which sets IEN again.
+fn rounds(trigger: u64) -> Vec<u64> {
+    let round = [trigger, word::arbitrate(), word::return_from()];
+    round.repeat(STEPS / round.len())
 }
 
-/// (c) Arbitrations where only the last record requests. An acknowledgement clears IP and IEN, so each has a request before it and a return after it.
-pub fn last_record(steps: usize) -> Trace {
+fn nothing_requests() -> Trace {
+    let note = "arbitrations, interrupts enabled, all unmasked, nothing pending";
+    let words = vec![word::arbitrate(); STEPS];
+    run("nothing requests", note, quiet_image(&channels()), words)
+}
+
+fn all_masked() -> Trace {
+    let note = "arbitrations, every record with IP = 1, DM = IM = 0, no external channel pending";
+    let words = vec![word::arbitrate(); STEPS];
+    run("twelve pending, all masked", note, image_with(&channels(), idcr::IP | 6), words)
+}
+
+fn last_record() -> Trace {
     let note = "[request 11, arbitrate, return] repeated, interrupt of the last record at level 6, CPL 7; all three steps count";
-    let round = [word::request(11), word::arbitrate(), word::return_from()];
-    let words = round.repeat(steps / round.len());
-    let image = quiet_image(&channels());
-    trace("last record", note.to_string(), image, words)
+    run("last record", note, quiet_image(&channels()), rounds(word::request(11)))
 }
 
-/// (a) A shift: edges, requests, watchdog, each served by arbitrations, handlers that read and write and return, blocks of DMA set up again, few resets.
-pub fn mixed(steps: usize) -> Trace {
-    let mut shift = Shift::new();
-    while shift.words.len() < steps {
-        shift.event();
-    }
-    shift.words.truncate(steps);
-    let words = shift.words;
-    let shares = shares(&words);
-    let note = format!("a shift of all kinds of steps; {shares}");
-    trace("mixed", note, shift_image(&channels()), words)
+/// The level of an odd external channel is odd, so with EIPLR FFh four of the twenty are at level 7. Source 0 comes first and wins each time: its own
+/// trigger must be the one that is repeated, for a request of record 11 would let the others be served one by one.
+fn all_twenty() -> Trace {
+    let note = "[edge of pin 0, arbitrate, return] repeated, CPL 7; all twenty request at each arbitration, the records and the even external channels at \
+                level 6, the odd ones at 7, which is as near as they come and not eligible; source 0 wins";
+    let mut image = image_with(&channels(), idcr::IP | idcr::IM | 6);
+    image[place(0, EIPLR)] = 0xFF;
+    image[place(0, EIPR)] = 0xFE;
+    run("all twenty at level 6", note, image, rounds(word::pin_edge(0, 0)))
+}
+
+/// An image in which PPR selects the page of the last record, and the record's data register.
+fn last_register() -> (Vec<u8>, u32) {
+    let channels = channels();
+    let last = channels[11];
+    let mut image = quiet_image(&channels);
+    image[place(0, PPR)] = last.page << 2;
+    (image, last.data.into())
+}
+
+fn read() -> Trace {
+    let (image, register) = last_register();
+    let words = vec![word::read(register); STEPS];
+    run("read of the last record's register", "its data register", image, words)
+}
+
+fn write() -> Trace {
+    let (image, register) = last_register();
+    let words = vec![word::write(register, 0x5A); STEPS];
+    run("write of the last record's register", "its data register", image, words)
+}
+
+fn mixed() -> Trace {
+    let words = Shift::words(STEPS);
+    let note = format!("a shift of all kinds of steps; {}", shares(&words));
+    run("mixed", &note, Shift::image(), words)
 }
 
 /// How many steps of each kind there are, in words.
@@ -102,97 +159,27 @@ fn shares(words: &[u64]) -> String {
     shares.join(", ")
 }
 
-/// A mixed trace in the making, followed on an image by the plain model.
-struct Shift {
-    random: Random,
-    channels: Vec<Channel>,
-    image: Vec<u8>,
-    words: Vec<u64>,
+/// A step in single calls where nothing requests.
+fn single(name: &'static str, channels: Vec<Channel>, word: u64) -> Trace {
+    Trace {
+        name,
+        note: "single calls, nothing requests".to_string(),
+        image: quiet_image(&channels),
+        list: generate::bytes(&channels),
+        channels,
+        words: vec![word; SINGLE_STEPS],
+        calls: Calls::Single,
+    }
 }
 
-impl Shift {
-    fn new() -> Shift {
-        let channels = channels();
-        let image = shift_image(&channels);
-        let mut shift = Shift { random: Random::new(7), channels, image, words: Vec::new() };
-        (0..4).for_each(|record| shift.set_up_block(record));
-        shift
-    }
+fn single_arbitration() -> Trace {
+    single("one call: arbitration, twelve records", channels(), word::arbitrate())
+}
 
-    /// Adds a step, which must not be refused.
-    fn add(&mut self, word: u64) -> Answer {
-        let answer = model::step(&mut self.image, &self.channels, word);
-        assert!(!matches!(answer, Answer::Refused(_)));
-        self.words.push(word);
-        answer
-    }
+fn single_arbitration_without_records() -> Trace {
+    single("one call: arbitration, no record", Vec::new(), word::arbitrate())
+}
 
-    /// Adds a write.
-    fn write(&mut self, register: u32, value: u8) {
-        self.add(word::write(register, value));
-    }
-
-    /// One to three triggers, then arbitrations until nothing is left; rarely a reset.
-    fn event(&mut self) {
-        for _ in 0..1 + self.random.below(3) {
-            self.trigger();
-        }
-        loop {
-            match self.add(word::arbitrate()) {
-                Answer::Nothing => break,
-                Answer::Transferred { .. } => {}
-                answer => self.handle(answer),
-            }
-        }
-        if self.random.chance(1, 500) {
-            self.restart();
-        }
-    }
-
-    /// An edge, a request, or the watchdog.
-    fn trigger(&mut self) {
-        let direction = self.random.between(0, 1);
-        let word = match self.random.below(20) {
-            0 => word::watchdog(),
-            1 => word::nmi_edge(direction),
-            2..=9 => word::request(self.random.below(12) as u32),
-            _ => word::pin_edge(self.random.below(8) as u32, direction),
-        };
-        self.add(word);
-    }
-
-    /// A handler: it looks at a register or two, keeps a byte, sets an ended block up again, and returns.
-    fn handle(&mut self, answer: Answer) {
-        if let Answer::Interrupt { source: source @ 8..=11, .. } = answer {
-            self.set_up_block(usize::from(source) - 8);
-        } else if self.random.chance(1, 2) {
-            let register = self.random.pick(&[20, 100, CICR, PPR]);
-            self.add(word::read(register));
-        }
-        if self.random.chance(1, 4) {
-            let (register, value) = (self.random.below(16) as u32, self.random.byte());
-            self.write(register, value);
-        }
-        self.add(word::return_from());
-    }
-
-    /// A block of one of the first four records: its pair in R16 to R23, eight bytes from R32 on, the pointer, and DMA enabled at the record's own level.
-    fn set_up_block(&mut self, record: usize) {
-        let channel = self.channels[record];
-        let pair = 16 + 2 * record as u8;
-        self.write(pair.into(), 32 + 8 * record as u8);
-        self.write(u32::from(pair) + 1, 8);
-        self.write(PPR, 4 * channel.page);
-        self.write(channel.dcpr.into(), pair + 1);
-        self.write(channel.idcr.into(), 0x18 | (2 + record as u8));
-    }
-
-    /// A reset, and page 0 and CICR set up again.
-    fn restart(&mut self) {
-        self.add(word::reset());
-        self.write(PPR, 0);
-        self.write(EIMR, 0xFF);
-        self.write(EIPLR, 0xE4);
-        self.write(CICR, 0xB7);
-    }
+fn single_read_without_records() -> Trace {
+    single("one call: read of R20, no record", Vec::new(), word::read(20))
 }
