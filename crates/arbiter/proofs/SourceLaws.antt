@@ -1,31 +1,20 @@
--- The source of a winner, and the record of a source, as code takes it from a list by value. Assumes nothing.
+-- The source of a winner. Assumes nothing.
 use mathlib.Core.Path.{_≡_, refl}
 use mathlib.Core.Logic.{_⊎_, inl, inr}
 use mathlib.Core.Bool.{Bool, true, false, cond}
 use mathlib.Core.List.{List}
-use Prim.Native.Nat.{ℕ, _-_, _≤_, _<_}
+use Prim.Native.Nat.{ℕ, _≤_, _<_}
 use native.Mathlib.Omega.{arith}
 use lib.Dec.{eqb, ltb}
 use borrow.Author.Tests.{eqb-true, ltb-true, ltb-false}
-use mir.Val.{Val}
-use denote.Laws.{Is}
-use Rattle.rules.specs.declared.Channels.{Channels}
 use Rattle.rules.specs.declared.Channel.{Channel}
 use Rattle.rules.specs.declared.Winner.the-variants as winner
 use Rattle.rules.specs.Image.{Image}
-use Rattle.rules.specs.Channels.{listOk, listOf}
 use Rattle.rules.specs.Sources.{sources, dmaEnabled}
 use Rattle.rules.specs.Requests.{wonBy, winnerOf}
 use Rattle.rules.proofs.Bools.{impossible, not-both, true-or}
 use Rattle.rules.proofs.FieldLaws.{external-source}
 use Rattle.rules.proofs.WinnerLaws.{Wins, Kinds, winner-first, asks-requests}
-use Rattle.rules.proofs.Channels as S
-use Rattle.channels.proofs.ItemLaws.{Taken, list-count, item-taken}
-
--- the item s - 8 of every source that is no external channel
-pub source-taken : (all : Channels) {vs : List Val} (s : ℕ) → Is S.the-row all vs → listOk (listOf all) ≡ true → s < sources (listOf all) → 8 ≤ s → Taken all (s - 8)
-unfolding sources
-source-taken all s good ok below internal = item-taken all good ok (s - 8) (omega (arith, list-count all good ok))
 
 -- who wins by DMA, and who by an interrupt
 won-dma : (l k p s : ℕ) → winner.Dma s ≡ wonBy l k p → (k ≡ 0) × (s ≡ p)

@@ -1,7 +1,8 @@
 // What an interrupt that has won gets.
 use crate::fields::put_at;
 use crate::nesting::nest;
-use channels::page_byte;
+use channels::IVRS;
+use channels::PLACES;
 use rules::Answer;
 use rules::CICR;
 use rules::Channels;
@@ -10,33 +11,28 @@ use rules::EIVR;
 use rules::EXTERNALS;
 use rules::IEN;
 use rules::IP;
-use rules::Winner;
 ghost use mathlib.Core.Path.{_≡_};
-ghost use mathlib.Core.Bool.{true};
 ghost use Prim.Native.Nat.{_<_};
-ghost use lib.ListN.{length};
-ghost use Rattle.rules.specs.Image.{imageLength};
-ghost use Rattle.rules.specs.Channels.{listOk, listOf};
-ghost use Rattle.rules.specs.Sources.{sources, AcceptedSource};
+ghost use Rattle.rules.specs.Channels.{listOf};
 ghost use Rattle.rules.specs.Arbitration.{vectorOf, cleared};
+ghost use Rattle.channels.specs.Laid.{PlacesSource};
 ghost use Rattle.arbiter.specs.Raised.{Acknowledges};
 
 // EIVR's upper half plus 2k, or IVR with bit 0 cleared.
-fn vector_of(image: &[u8], all: Channels, source: u8) -> u8
-    requires { ⌜ AcceptedSource (now image) (listOf all) source ⌝ }
+fn vector_of(image: &[u8], all: Channels, places: &[u16; PLACES], source: u8) -> u8
+    requires { ⌜ PlacesSource (now image) (listOf all) (now places) source ⌝ }
     ensures { λ v. ⌜ v ≡ vectorOf (now (image .entry)) (listOf all) source ⌝ }
 {
     let s = source as usize;
     if s < EXTERNALS {
         return image[EIVR] / 16 * 16 + 2 * source;
     }
-    let c = all.items[s - EXTERNALS];
-    image[page_byte(c.page, c.ivr)] / 2 * 2
+    image[places[IVRS + (s - EXTERNALS)] as usize] / 2 * 2
 }
 
 // Clears the source's EIPR or IP bit.
-fn clear_pending(image: &mut [u8], all: Channels, source: u8)
-    requires { ⌜ AcceptedSource (now image) (listOf all) source ⌝ }
+fn clear_pending(image: &mut [u8], all: Channels, places: &[u16; PLACES], source: u8)
+    requires { ⌜ PlacesSource (now image) (listOf all) (now places) source ⌝ }
     ensures { λ _. ⌜ now (image .exit) ≡ cleared (now (image .entry)) (listOf all) source ⌝ }
 {
     let s = source as usize;
@@ -44,18 +40,23 @@ fn clear_pending(image: &mut [u8], all: Channels, source: u8)
         put_at(image, EIPR, source, false);
         return;
     }
-    let c = all.items[s - EXTERNALS];
-    put_at(image, page_byte(c.page, c.idcr), IP, false);
+    put_at(image, places[s - EXTERNALS] as usize, IP, false);
 }
 
 // An acknowledgement: in nested mode the levels first; then the source's bit and IEN are cleared.
-pub(crate) fn acknowledge(image: &mut [u8], all: Channels, source: u8, level: u8) -> Answer
-    requires { ⌜ (length (now image) ≡ imageLength) × (listOk (listOf all) ≡ true) × (source < sources (listOf all)) × (level < 8) ⌝ }
+pub(crate) fn acknowledge(
+    image: &mut [u8],
+    all: Channels,
+    places: &[u16; PLACES],
+    source: u8,
+    level: u8,
+) -> Answer
+    requires { ⌜ PlacesSource (now image) (listOf all) (now places) source × (level < 8) ⌝ }
     ensures { λ a. ⌜ Acknowledges (now (image .entry)) (listOf all) source level a (now (image .exit)) ⌝ }
 {
-    let vector = vector_of(image, all, source);
+    let vector = vector_of(image, all, places, source);
     nest(image, level);
-    clear_pending(image, all, source);
+    clear_pending(image, all, places, source);
     put_at(image, CICR, IEN, false);
     Answer::Interrupt {
         source,

@@ -7,13 +7,13 @@ mod triggers;
 
 use acknowledgement::acknowledge;
 use bits::has_bit;
+use channels::PLACES;
 use fields::put_at;
 use nesting::unnest;
 use requests::winner_of;
 use rules::Answer;
 use rules::CICR;
 use rules::Channels;
-use rules::EXTERNALS;
 use rules::IEN;
 use rules::MARK;
 use rules::NICR;
@@ -31,22 +31,23 @@ use triggers::watchdog;
 ghost use mathlib.Core.Path.{_≡_};
 ghost use lib.ListN.{length};
 ghost use Rattle.rules.specs.Image.{imageLength, inService};
-ghost use Rattle.rules.specs.Channels.{listOf, Accepted};
+ghost use Rattle.rules.specs.Channels.{listOf};
 ghost use Rattle.rules.specs.Outcomes.{outcome};
 ghost use Rattle.rules.specs.Triggers.{triggerOf};
 ghost use Rattle.rules.specs.Arbitration.{topLevel, enteredTop, arbitrateOf};
 ghost use Rattle.rules.specs.Return.{returnOf};
+ghost use Rattle.channels.specs.Laid.{AcceptedPlaces};
 
 // A trigger: refused with 4 or 7, or answered for the maskable bit and for TLIP.
-pub fn trigger(image: &mut [u8], all: Channels, event: Trigger) -> Answer
-    requires { ⌜ Accepted (now image) (listOf all) ⌝ }
+pub fn trigger(image: &mut [u8], all: Channels, places: &[u16; PLACES], event: Trigger) -> Answer
+    requires { ⌜ AcceptedPlaces (now image) (listOf all) (now places) ⌝ }
     ensures { λ a. ⌜ outcome a (now (image .exit)) ≡ triggerOf (now (image .entry)) (listOf all) event ⌝ }
 {
     match event {
         Trigger::Pin { pin, direction } => pin_edge(image, pin, direction),
         Trigger::Watchdog => watchdog(image),
         Trigger::Nmi { direction } => nmi_edge(image, direction),
-        Trigger::Request { record } => channel_request(image, all, record),
+        Trigger::Request { record } => channel_request(image, all, places, record),
         Trigger::Unknown => Answer::Refused(Refusal::Kind),
     }
 }
@@ -65,7 +66,10 @@ fn top_level(image: &[u8]) -> bool
     ensures { λ t. ⌜ t ≡ topLevel (now (image .entry)) ⌝ }
 {
     let cicr = image[CICR];
-    has_bit(cicr, TLIP) & (has_bit(image[NICR], TLNM) | (has_bit(cicr, TLI) & has_bit(cicr, IEN)))
+    if !has_bit(cicr, TLIP) {
+        return false;
+    }
+    has_bit(image[NICR], TLNM) | (has_bit(cicr, TLI) & has_bit(cicr, IEN))
 }
 
 // Clears TLIP and sets the mark; IEN, CPL and NICR stay.
@@ -78,8 +82,8 @@ fn enter_top(image: &mut [u8])
 }
 
 // An arbitration: nothing while the mark is set; the top level; then what the winner gets.
-pub fn arbitrate(image: &mut [u8], all: Channels) -> Answer
-    requires { ⌜ Accepted (now image) (listOf all) ⌝ }
+pub fn arbitrate(image: &mut [u8], all: Channels, places: &[u16; PLACES]) -> Answer
+    requires { ⌜ AcceptedPlaces (now image) (listOf all) (now places) ⌝ }
     ensures { λ a. ⌜ outcome a (now (image .exit)) ≡ arbitrateOf (now (image .entry)) (listOf all) ⌝ }
 {
     if in_service(image) {
@@ -89,13 +93,10 @@ pub fn arbitrate(image: &mut [u8], all: Channels) -> Answer
         enter_top(image);
         return Answer::TopLevel;
     }
-    match winner_of(image, all) {
+    match winner_of(image, all, places) {
         Winner::Nobody => Answer::Nothing,
-        Winner::Dma { source } => {
-            let c = all.items[(source as usize) - EXTERNALS];
-            transfer(image, c, source)
-        }
-        Winner::Interrupt { source, level } => acknowledge(image, all, source, level),
+        Winner::Dma { source } => transfer(image, all, places, source),
+        Winner::Interrupt { source, level } => acknowledge(image, all, places, source, level),
     }
 }
 

@@ -1,32 +1,43 @@
 // What a DMA request that has won gets.
 use crate::fields::put_at;
 use bits::has_bit;
-use channels::page_byte;
+use channels::DATAS;
+use channels::DCPRS;
+use channels::DIRECTIONS;
+use channels::PLACES;
 use rules::Answer;
-use rules::Channel;
+use rules::Channels;
 use rules::DM;
+use rules::EXTERNALS;
 use rules::IM;
 use rules::IP;
 use rules::LAST_REGISTER;
 use rules::Refusal;
 use std::num::wrapping_sub_u8;
 ghost use mathlib.Core.Path.{_≡_};
-ghost use mathlib.Core.Bool.{true};
 ghost use Prim.Native.Nat.{_+_, _≤_, _<_};
 ghost use lib.ListN.{length, set};
-ghost use Rattle.rules.specs.Image.{imageLength};
-ghost use Rattle.rules.specs.Channels.{recordOk};
+ghost use Rattle.rules.specs.Channels.{listOf};
 ghost use Rattle.rules.specs.Outcomes.{outcome};
+ghost use Rattle.rules.specs.Sources.{recordOf};
 ghost use Rattle.rules.specs.Transfer.{lastRegister, movedByte, lessOne, settled, served, transferOf};
+ghost use Rattle.arbiter.specs.Raised.{PlacesRecord};
+
+// The pair Rn, R(n+1), as it was read first: an address and a counter.
+struct Pair {
+    n: usize,
+    address: u8,
+    count: u8,
+}
 
 // Moves a byte between the data register and Ra.
-fn move_byte(image: &mut [u8], c: Channel, a: u8)
-    requires { ⌜ (length (now image) ≡ imageLength) × (recordOk c ≡ true) ⌝ }
-    ensures { λ _. ⌜ now (image .exit) ≡ movedByte (now (image .entry)) c a ⌝ }
+fn move_byte(image: &mut [u8], all: Channels, places: &[u16; PLACES], source: usize, a: u8)
+    requires { ⌜ PlacesRecord (now image) (listOf all) (now places) source ⌝ }
+    ensures { λ _. ⌜ now (image .exit) ≡ movedByte (now (image .entry)) (recordOf (listOf all) source) a ⌝ }
 {
-    let io = page_byte(c.page, c.io);
+    let io = places[DATAS + (source - EXTERNALS)] as usize;
     let address = a as usize;
-    if c.direction == 0 {
+    if places[DIRECTIONS + (source - EXTERNALS)] == 0 {
         image[address] = image[io];
     } else {
         image[io] = image[address];
@@ -50,11 +61,11 @@ fn advance(image: &mut [u8], n: usize, address: u8, count: u8)
 }
 
 // IP is cleared; at the end of a block DM is, and IP becomes IM.
-fn settle(image: &mut [u8], c: Channel, ended: bool)
-    requires { ⌜ (length (now image) ≡ imageLength) × (recordOk c ≡ true) ⌝ }
-    ensures { λ _. ⌜ now (image .exit) ≡ settled (now (image .entry)) c ended ⌝ }
+fn settle(image: &mut [u8], all: Channels, places: &[u16; PLACES], source: usize, ended: bool)
+    requires { ⌜ PlacesRecord (now image) (listOf all) (now places) source ⌝ }
+    ensures { λ _. ⌜ now (image .exit) ≡ settled (now (image .entry)) (recordOf (listOf all) source) ended ⌝ }
 {
-    let idcr = page_byte(c.page, c.idcr);
+    let idcr = places[source - EXTERNALS] as usize;
     if ended {
         let im = has_bit(image[idcr], IM);
         put_at(image, idcr, DM, false);
@@ -64,25 +75,30 @@ fn settle(image: &mut [u8], c: Channel, ended: bool)
     put_at(image, idcr, IP, false);
 }
 
-// The transfer over the pair Rn, R(n+1), with the address and the counter that were read first; what they become is written after the move.
-fn serve(image: &mut [u8], c: Channel, source: u8, n: usize, address: u8, count: u8) -> Answer
-    requires { ⌜ (length (now image) ≡ imageLength) × (recordOk c ≡ true) × (n ≤ lastRegister) × (address ≤ lastRegister) ⌝ }
-    ensures { λ a. ⌜ outcome a (now (image .exit)) ≡ served (now (image .entry)) c source n address count ⌝ }
+// The transfer over a pair; what its registers become is written after the move.
+fn serve(image: &mut [u8], all: Channels, places: &[u16; PLACES], source: u8, pair: Pair) -> Answer
+    requires { ⌜ PlacesRecord (now image) (listOf all) (now places) source × (pair .n ≤ lastRegister) × (pair .address ≤ lastRegister) ⌝ }
+    ensures { λ a. ⌜ outcome a (now (image .exit)) ≡ served (now (image .entry)) (recordOf (listOf all) source) source (pair .n) (pair .address) (pair .count) ⌝ }
 {
-    let left = less_one(count);
-    move_byte(image, c, address);
-    advance(image, n, address, left);
+    let left = less_one(pair.count);
+    move_byte(image, all, places, source as usize, pair.address);
+    advance(image, pair.n, pair.address, left);
     let ended = left == 0;
-    settle(image, c, ended);
+    settle(image, all, places, source as usize, ended);
     Answer::Transferred { source, ended }
 }
 
 // A DMA service: refused with 5 where DCPR names memory, then with 6 where the pair or the address is over R223.
-pub(crate) fn transfer(image: &mut [u8], c: Channel, source: u8) -> Answer
-    requires { ⌜ (length (now image) ≡ imageLength) × (recordOk c ≡ true) ⌝ }
-    ensures { λ a. ⌜ outcome a (now (image .exit)) ≡ transferOf (now (image .entry)) c source ⌝ }
+pub(crate) fn transfer(
+    image: &mut [u8],
+    all: Channels,
+    places: &[u16; PLACES],
+    source: u8,
+) -> Answer
+    requires { ⌜ PlacesRecord (now image) (listOf all) (now places) source ⌝ }
+    ensures { λ a. ⌜ outcome a (now (image .exit)) ≡ transferOf (now (image .entry)) (recordOf (listOf all) source) source ⌝ }
 {
-    let dcpr = image[page_byte(c.page, c.dcpr)];
+    let dcpr = image[places[DCPRS + ((source as usize) - EXTERNALS)] as usize];
     let memory = dcpr % 2 == 0;
     if memory {
         return Answer::Refused(Refusal::Memory);
@@ -96,5 +112,5 @@ pub(crate) fn transfer(image: &mut [u8], c: Channel, source: u8) -> Answer
     if LAST_REGISTER < (address as usize) {
         return Answer::Refused(Refusal::Pointer);
     }
-    serve(image, c, source, n, address, count)
+    serve(image, all, places, source, Pair { n, address, count })
 }

@@ -1,7 +1,8 @@
 // What each kind of trigger selects, sets and answers.
 use crate::fields::put_at;
 use bits::has_bit;
-use channels::page_byte;
+use channels::COUNT;
+use channels::PLACES;
 use rules::Answer;
 use rules::CICR;
 use rules::Channels;
@@ -20,8 +21,9 @@ ghost use mathlib.Core.Path.{_≡_};
 ghost use Prim.Native.Nat.{_<_};
 ghost use lib.ListN.{length};
 ghost use Rattle.rules.specs.Image.{imageLength, bitOf};
-ghost use Rattle.rules.specs.Channels.{listOf, Accepted};
+ghost use Rattle.rules.specs.Channels.{listOf};
 ghost use Rattle.rules.specs.Triggers.{edge};
+ghost use Rattle.channels.specs.Laid.{AcceptedPlaces};
 ghost use Rattle.arbiter.specs.Raised.{Raises, Fires, FiresIn};
 
 // Sets bit k of a byte where it is selected, and answers what that did.
@@ -89,15 +91,19 @@ pub(crate) fn nmi_edge(image: &mut [u8], direction: u8) -> Answer
 }
 
 // A channel request: IP of the record.
-pub(crate) fn channel_request(image: &mut [u8], all: Channels, number: u32) -> Answer
-    requires { ⌜ Accepted (now image) (listOf all) ⌝ }
+pub(crate) fn channel_request(
+    image: &mut [u8],
+    all: Channels,
+    places: &[u16; PLACES],
+    number: u32,
+) -> Answer
+    requires { ⌜ AcceptedPlaces (now image) (listOf all) (now places) ⌝ }
     ensures { λ a. ⌜ FiresIn (now (image .entry)) (listOf all) (Trigger.Request number) a (now (image .exit)) ⌝ }
 {
     let k = number as usize;
-    if all.count <= k {
+    if (places[COUNT] as usize) <= k {
         return Answer::Refused(Refusal::Number);
     }
-    let c = all.items[k];
-    let at = page_byte(c.page, c.idcr);
+    let at = places[k] as usize;
     Answer::Triggered(raise(image, at, IP, true), Effect::NotSelected)
 }

@@ -4,8 +4,9 @@ mod targets;
 
 use arbiter::in_service;
 use bits::has_bit;
+use channels::MASKS;
+use channels::PLACES;
 pub use copies::copy_of;
-use dispatch::act;
 use dispatch::decode;
 use dispatch::is_arbitration;
 use dispatch::verdict_of;
@@ -21,6 +22,7 @@ use rules::Step;
 use rules::TLI;
 use rules::TLNM;
 use rules::Verdict;
+use runs::perform;
 use sources::any_dma;
 use sources::is_pending;
 use sources::is_rival;
@@ -41,6 +43,7 @@ ghost use Rattle.rules.specs.Sources.{sources, AcceptedSource};
 ghost use Rattle.rules.specs.Runs.{oneIf};
 ghost use Rattle.rules.specs.Demand3.{isCall};
 ghost use Rattle.rules.specs.Bounds.{sourcePremises, startPremises};
+ghost use Rattle.channels.specs.Laid.{LaidSource};
 ghost use Rattle.bounds.specs.Followed.{rivalTriggered, firstDisabled, withinOf, stepsBound, wordsBound, Decides};
 
 // Whether a step was done that is no trigger, arbitration or return; a refused one is none.
@@ -100,8 +103,15 @@ pub fn within(image: &[u8], all: Channels, ours: usize, triggers: usize) -> Boun
 }
 
 // The premises on the steps, and the bound where they hold.
-fn followed(image: &[u8], all: Channels, ours: usize, words: &[u64]) -> Bounded
-    requires { ⌜ AcceptedSource (now image) (listOf all) ours ⌝ }
+fn followed(
+    image: &[u8],
+    all: Channels,
+    masks: &[u8; MASKS],
+    places: &[u16; PLACES],
+    ours: usize,
+    words: &[u64],
+) -> Bounded
+    requires { ⌜ LaidSource (now image) (listOf all) (now masks) (now places) ours ⌝ }
     ensures { λ b. ⌜ b ≡ stepsBound (now (image .entry)) (listOf all) ours (now (words .entry)) ⌝ }
 {
     let mut copy = copy_of(image);
@@ -110,9 +120,10 @@ fn followed(image: &[u8], all: Channels, ours: usize, words: &[u64]) -> Bounded
     let mut triggers: usize = 0;
     let mut done: usize = 0;
     while done < words.len() {
-        let step = decode(words[done]);
+        let word = words[done];
+        let step = decode(word);
         let enabled = has_bit(copy[CICR], IEN);
-        let a = act(&mut copy, all, step);
+        let a = perform(&mut copy, all, masks, places, word);
         if other_step(step, a) {
             return Bounded::OtherStep { index: done };
         }
@@ -171,12 +182,19 @@ pub fn start_premises(image: &[u8], all: Channels, source: u32) -> Premises
 }
 
 // The premises on the start, then those on the steps.
-pub fn bound_accepted(image: &[u8], all: Channels, source: u32, words: &[u64]) -> Bounded
-    requires { ⌜ AcceptedSource (now image) (listOf all) source ⌝ }
+pub fn bound_accepted(
+    image: &[u8],
+    all: Channels,
+    masks: &[u8; MASKS],
+    places: &[u16; PLACES],
+    source: u32,
+    words: &[u64],
+) -> Bounded
+    requires { ⌜ LaidSource (now image) (listOf all) (now masks) (now places) source ⌝ }
     ensures { λ b. ⌜ b ≡ wordsBound (now (image .entry)) (listOf all) source (now (words .entry)) ⌝ }
 {
     match start_premises(image, all, source) {
-        Premises::Hold => followed(image, all, source as usize, words),
+        Premises::Hold => followed(image, all, masks, places, source as usize, words),
         Premises::Fail(b) => b,
     }
 }

@@ -1,4 +1,9 @@
 pub mod RestLaws
-pub mod SeenLaws
 pub mod ItemLaws
 pub mod RegisterLaws
+pub mod HighLaws
+pub mod SpotLaws
+pub mod RowLaws
+pub mod MetLaws
+pub mod ColumnLaws
+pub mod LaidLaws

@@ -1,6 +1,8 @@
 // One step on an image and a list that are accepted: a word decoded, the step done, and what is asked of a step and of its answer by those who do many.
 mod words;
 
+use channels::MASKS;
+use channels::PLACES;
 use rules::Answer;
 use rules::AnswerKind;
 use rules::Channels;
@@ -9,21 +11,28 @@ use rules::Step;
 use rules::Verdict;
 pub use words::decode;
 ghost use mathlib.Core.Path.{_≡_};
-ghost use Rattle.rules.specs.Channels.{listOf, Accepted};
+ghost use Rattle.rules.specs.Channels.{listOf};
 ghost use Rattle.rules.specs.Outcomes.{state, outcome, kindOf, verdictOf, acknowledges};
 ghost use Rattle.rules.specs.Steps.{actOf};
 ghost use Rattle.rules.specs.Runs.{isArbitration, oneIf};
+ghost use Rattle.channels.specs.Laid.{AcceptedLaid};
 
 // One step.
-pub fn act(image: &mut [u8], all: Channels, step: Step) -> Answer
-    requires { ⌜ Accepted (now image) (listOf all) ⌝ }
+pub fn act(
+    image: &mut [u8],
+    all: Channels,
+    masks: &[u8; MASKS],
+    places: &[u16; PLACES],
+    step: Step,
+) -> Answer
+    requires { ⌜ AcceptedLaid (now image) (listOf all) (now masks) (now places) ⌝ }
     ensures { λ a. ⌜ outcome a (state (now (image .exit))) ≡ actOf (state (now (image .entry))) (listOf all) step ⌝ }
 {
     match step {
-        Step::Read(register) => registers::read(image, all, register),
-        Step::Write(register, value) => registers::write(image, all, register, value),
-        Step::Trigger(event) => arbiter::trigger(image, all, event),
-        Step::Arbitrate => arbiter::arbitrate(image, all),
+        Step::Read(register) => registers::read(image, all, masks, register),
+        Step::Write(register, value) => registers::write(image, all, masks, register, value),
+        Step::Trigger(event) => arbiter::trigger(image, all, places, event),
+        Step::Arbitrate => arbiter::arbitrate(image, all, places),
         Step::Return => arbiter::return_from_interrupt(image),
         Step::Reset => registers::reset(image),
         Step::Unknown => Answer::Refused(Refusal::Kind),

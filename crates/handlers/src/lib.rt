@@ -10,8 +10,9 @@ use bounds::start_premises;
 use bounds::within;
 use changes::first_changed;
 use changes::raised_rivals;
+use channels::MASKS;
+use channels::PLACES;
 use dispatch::acknowledged;
-use dispatch::act;
 use dispatch::decode;
 use dispatch::is_arbitration;
 use dispatch::verdict_of;
@@ -22,14 +23,17 @@ use rules::Channels;
 use rules::IEN;
 use rules::Step;
 use rules::Verdict;
+use runs::perform;
 ghost use mathlib.Core.Path.{_≡_};
 ghost use mathlib.Core.Bool.{true};
 ghost use Prim.Native.Nat.{_<_};
 ghost use lib.ListN.{length};
 ghost use Rattle.rules.specs.Image.{imageLength};
 ghost use Rattle.rules.specs.Channels.{listOk, listOf};
-ghost use Rattle.rules.specs.Sources.{sources, AcceptedSource};
+ghost use Rattle.rules.specs.Sources.{sources};
 ghost use Rattle.rules.specs.Handlers.{isWrite};
+ghost use Rattle.rules.specs.Encodings.{decodeOf};
+ghost use Rattle.channels.specs.Laid.{LaidMasks, LaidPlaces, LaidSource};
 ghost use Rattle.handlers.specs.Handled.{mayStand, fileWrite, brokenCall, stepsBound, wordsBound, Follows};
 
 // What a step that was followed answered, whether the premises hold of it, and how many unmasked sources outranking ours it triggered or made pending by a
@@ -38,6 +42,13 @@ pub struct Seen {
     pub answer: Answer,
     pub broken: Premises,
     pub more: usize,
+}
+
+// A step that is followed, as its word and its index in the list; and our source.
+struct Asked {
+    ours: usize,
+    word: u64,
+    index: usize,
 }
 
 // Whether a step of this kind may stand in the list, a write where it leaves what the bound rests on: a reset may not.
@@ -108,19 +119,19 @@ fn follow_write(
     start: &[u8],
     copy: &mut [u8],
     all: Channels,
-    ours: usize,
-    step: Step,
-    index: usize,
+    masks: &[u8; MASKS],
+    places: &[u16; PLACES],
+    asked: Asked,
 ) -> Seen
-    requires { ⌜ (length (now start) ≡ imageLength) × (length (now copy) ≡ imageLength) × (listOk (listOf all) ≡ true) × (ours < sources (listOf all)) × (isWrite step ≡ true) ⌝ }
-    ensures { λ f. ⌜ Follows (now (start .entry)) (now (copy .entry)) (listOf all) ours step index f (now (copy .exit)) ⌝ }
+    requires { ⌜ (length (now start) ≡ imageLength) × (length (now copy) ≡ imageLength) × (listOk (listOf all) ≡ true) × LaidMasks (listOf all) (now masks) × LaidPlaces (listOf all) (now places) × (asked .ours < sources (listOf all)) × (isWrite (decodeOf (asked .word)) ≡ true) ⌝ }
+    ensures { λ f. ⌜ Follows (now (start .entry)) (now (copy .entry)) (listOf all) (asked .ours) (decodeOf (asked .word)) (asked .index) f (now (copy .exit)) ⌝ }
 {
     let before = copy_of(copy);
-    let answer = act(copy, all, step);
+    let answer = perform(copy, all, masks, places, asked.word);
     match verdict_of(answer) {
         Verdict::Accepted => {
-            let broken = first_changed(&before, copy, all, ours, index);
-            let more = raised_rivals(start, &before, copy, all, ours);
+            let broken = first_changed(&before, copy, all, asked.ours, asked.index);
+            let more = raised_rivals(start, &before, copy, all, asked.ours);
             Seen {
                 answer,
                 broken,
@@ -140,15 +151,16 @@ fn follow(
     start: &[u8],
     copy: &mut [u8],
     all: Channels,
-    ours: usize,
-    step: Step,
-    index: usize,
+    masks: &[u8; MASKS],
+    places: &[u16; PLACES],
+    asked: Asked,
 ) -> Seen
-    requires { ⌜ (length (now start) ≡ imageLength) × (length (now copy) ≡ imageLength) × (listOk (listOf all) ≡ true) × (ours < sources (listOf all)) ⌝ }
-    ensures { λ f. ⌜ Follows (now (start .entry)) (now (copy .entry)) (listOf all) ours step index f (now (copy .exit)) ⌝ }
+    requires { ⌜ (length (now start) ≡ imageLength) × (length (now copy) ≡ imageLength) × (listOk (listOf all) ≡ true) × LaidMasks (listOf all) (now masks) × LaidPlaces (listOf all) (now places) × (asked .ours < sources (listOf all)) ⌝ }
+    ensures { λ f. ⌜ Follows (now (start .entry)) (now (copy .entry)) (listOf all) (asked .ours) (decodeOf (asked .word)) (asked .index) f (now (copy .exit)) ⌝ }
 {
+    let step = decode(asked.word);
     if is_file_write(step) {
-        let answer = act(copy, all, step);
+        let answer = perform(copy, all, masks, places, asked.word);
         return Seen {
             answer,
             broken: Premises::Hold,
@@ -156,12 +168,12 @@ fn follow(
         };
     }
     if is_write(step) {
-        return follow_write(start, copy, all, ours, step, index);
+        return follow_write(start, copy, all, masks, places, asked);
     }
     let disabled = is_arbitration(step) & !has_bit(copy[CICR], IEN);
-    let answer = act(copy, all, step);
-    let broken = broken_call(step, answer, disabled, index);
-    let more = rival_trigger(start, all, ours, step, answer);
+    let answer = perform(copy, all, masks, places, asked.word);
+    let broken = broken_call(step, answer, disabled, asked.index);
+    let more = rival_trigger(start, all, asked.ours, step, answer);
     Seen {
         answer,
         broken,
@@ -170,8 +182,15 @@ fn follow(
 }
 
 // The premises on the steps until ours is acknowledged, and the bound where they hold.
-fn followed(image: &[u8], all: Channels, source: u32, words: &[u64]) -> Bounded
-    requires { ⌜ AcceptedSource (now image) (listOf all) source ⌝ }
+fn followed(
+    image: &[u8],
+    all: Channels,
+    masks: &[u8; MASKS],
+    places: &[u16; PLACES],
+    source: u32,
+    words: &[u64],
+) -> Bounded
+    requires { ⌜ LaidSource (now image) (listOf all) (now masks) (now places) source ⌝ }
     ensures { λ b. ⌜ b ≡ stepsBound (now (image .entry)) (listOf all) source (now (words .entry)) ⌝ }
 {
     let ours = source as usize;
@@ -179,7 +198,12 @@ fn followed(image: &[u8], all: Channels, source: u32, words: &[u64]) -> Bounded
     let mut triggers: usize = 0;
     let mut done: usize = 0;
     while done < words.len() {
-        let f = follow(image, &mut copy, all, ours, decode(words[done]), done);
+        let asked = Asked {
+            ours,
+            word: words[done],
+            index: done,
+        };
+        let f = follow(image, &mut copy, all, masks, places, asked);
         let broken = f.broken;
         match broken {
             Premises::Fail(b) => {
@@ -199,12 +223,19 @@ fn followed(image: &[u8], all: Channels, source: u32, words: &[u64]) -> Bounded
 }
 
 // The premises on the start, then those on the steps.
-pub fn handler_bound_accepted(image: &[u8], all: Channels, source: u32, words: &[u64]) -> Bounded
-    requires { ⌜ AcceptedSource (now image) (listOf all) source ⌝ }
+pub fn handler_bound_accepted(
+    image: &[u8],
+    all: Channels,
+    masks: &[u8; MASKS],
+    places: &[u16; PLACES],
+    source: u32,
+    words: &[u64],
+) -> Bounded
+    requires { ⌜ LaidSource (now image) (listOf all) (now masks) (now places) source ⌝ }
     ensures { λ b. ⌜ b ≡ wordsBound (now (image .entry)) (listOf all) source (now (words .entry)) ⌝ }
 {
     match start_premises(image, all, source) {
-        Premises::Hold => followed(image, all, source, words),
+        Premises::Hold => followed(image, all, masks, places, source, words),
         Premises::Fail(b) => b,
     }
 }

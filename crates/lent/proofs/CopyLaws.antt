@@ -3,11 +3,11 @@ use mathlib.Core.Path.{_≡_, refl, sym, ap, _∙_}
 use mathlib.Core.Logic.{_≢_}
 use mathlib.Core.Bool.{Bool, true, false, cond}
 use mathlib.Core.List.{List, [], _∷_, _++_}
-use Prim.Native.Nat.{ℕ, zero, suc, _+_, _%_, _≤_, _<_}
+use Prim.Native.Nat.{ℕ, zero, suc, _+_, _%_, _≤_, _<_, min}
 use native.Mathlib.Omega.{arith}
 use native.Mathlib.Numerals.{add-one}
 use lib.Dec.{leb, ltb}
-use lib.ListN.{length, getD, take, length-set, length-append}
+use lib.ListN.{length, getD, set, take, length-set, length-append}
 use lib.Seq.{take-suc, take-suc-set, take-length}
 use borrow.Author.Tests.{leb-true, leb-false, le-leb, lt-leb, lt-ltb, le-ltb, ne-eqb}
 use Rattle.rules.specs.declared.Channel.{Channel}
@@ -48,10 +48,27 @@ pub upto-next : (cs : List Channel) (i : ℕ) → putOf (copiedUpTo cs i) i (get
 unfolding copiedUpTo
 upto-next cs i = rw add-one
 
+-- in place, where there is room
+pub upto-set : (cs : List Channel) (i : ℕ) → i < mostRecords
+    → record { items = set (copiedUpTo cs i .items) i (getD cs i noChannel); count = copiedUpTo cs i .count } ≡ copiedUpTo cs (i + 1)
+upto-set cs i h = rw (← upto-next cs i, lt-ltb i mostRecords h)
+
 -- after as many turns as the count the copy is whole
 pub upto-all : (cs : List Channel) (i : ℕ) → i ≡ capped (length cs) → copiedUpTo cs i ≡ copyOf cs
 unfolding copyOf
 upto-all cs i e = rw e
+
+-- a turn without room puts nothing, so that it is whole as soon as there is none
+pub upto-kept : (cs : List Channel) (i : ℕ) → i ≡ min (length cs) mostRecords → copiedUpTo cs i ≡ copyOf cs
+upto-kept cs i e = go (leb (length cs) mostRecords) refl
+  where
+    go : (t : Bool) → leb (length cs) mostRecords ≡ t → copiedUpTo cs i ≡ copyOf cs
+    go true l =
+        let all : i ≡ length cs = omega (arith, e, leb-true (length cs) mostRecords l) in
+        upto-all cs i (all ∙ sym (rw l))
+    go false l =
+        let full : i ≡ mostRecords = omega (arith, e, leb-false (length cs) mostRecords l) in
+        rw full (upto-next cs mostRecords ∙ upto-all cs 13 (sym (rw l)))
 
 -- ---- the items
 

@@ -4,7 +4,7 @@ use rules::Channels;
 use rules::MOST_RECORDS;
 use rules::RECORD_BYTES;
 ghost use mathlib.Core.Path.{_≡_};
-ghost use Prim.Native.Nat.{_+_, _*_, _≤_, _<_};
+ghost use Prim.Native.Nat.{_+_, _*_, _≤_, _<_, min};
 ghost use lib.ListN.{length, drop};
 ghost use Rattle.rules.specs.Channels.{mostRecords};
 ghost use Rattle.rules.specs.Encodings.{recordLength, recordIn, listIn};
@@ -78,6 +78,16 @@ fn record_at(bytes: &[u8], i: usize) -> Channel
     }
 }
 
+// How many of n records a list by value has room for.
+fn room(n: usize) -> usize
+    ensures { λ r. ⌜ r ≡ min n mostRecords ⌝ }
+{
+    if n < MOST_RECORDS {
+        return n;
+    }
+    MOST_RECORDS
+}
+
 // The list that bytes stand for, seven a record, by value: a count of thirteen where there are more than twelve records, or no whole number of them.
 pub fn unpacked(bytes: &[u8]) -> Channels
     ensures { λ all. ⌜ all ≡ copyOf (listIn (now (bytes .entry))) ⌝ }
@@ -85,12 +95,16 @@ pub fn unpacked(bytes: &[u8]) -> Channels
     if bytes.len() % RECORD_BYTES != 0 {
         return blank(MOST_RECORDS + 1);
     }
-    let mut all = blank(bytes.len() / RECORD_BYTES);
-    let n = all.count;
+    let n = bytes.len() / RECORD_BYTES;
+    // Returned as it is made: the compiler would copy a list that is filled.
+    if n == 0 {
+        return blank(0);
+    }
+    let mut all = blank(n);
+    let kept = room(n);
     let mut i: usize = 0;
-    while i < n {
-        let c = record_at(bytes, i);
-        all = put(all, i, c);
+    while i < kept {
+        all.items[i] = record_at(bytes, i);
         i += 1;
     }
     all

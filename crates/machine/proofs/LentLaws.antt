@@ -1,5 +1,6 @@
 -- A call's promise by its verdict. Assumes nothing.
 use mathlib.Core.Path.{_≡_, refl, sym, ap, _∙_}
+use mathlib.Core.Bool.{false≢true}
 use mathlib.Core.List.{List}
 use Prim.Native.Nat.{ℕ}
 use Rattle.rules.specs.declared.Channel.{Channel}
@@ -12,24 +13,40 @@ use Rattle.rules.specs.declared.Ran.the-variants as ran
 use Rattle.rules.specs.declared.Waited.the-variants as waited
 use Rattle.rules.specs.declared.Bounded.{Bounded}
 use Rattle.rules.specs.declared.Bounded.the-variants as bounded
-use Rattle.rules.specs.declared.Flat.{Flat}
 use Rattle.rules.specs.Image.{Image}
-use Rattle.rules.specs.Outcomes.{State, state, Outcome, outcome, refuse, refusedOr}
+use Rattle.rules.specs.Outcomes.{state, outcome, refuse, refusedOr, refuses}
 use Rattle.rules.specs.Steps.{lentVerdict, actOf, stepOf}
 use Rattle.rules.specs.Runs.{runOf, waitVerdict, waitOf}
 use Rattle.rules.specs.Bounds.{acceptedBound, boundOf}
 use Rattle.rules.specs.HandlerBounds.{acceptedHandlerBound, handlerBoundOf}
 use Rattle.rules.specs.Encodings.{stepsOf, told, toldRun, toldWait, toldBound}
 use Rattle.rules.specs.Promises.{Does, Runs, Waits, Bounds, HandlerBounds}
+use Rattle.rules.proofs.Refusals.{lent-sound}
+use Rattle.rules.proofs.WaitLaws.{accepted-lent, accepted-source}
+use Rattle.channels.specs.Laid.{Laid, AcceptedLaid, LaidSource}
+use Rattle.runs.proofs.RunSteps.{promised}
 
 -- what is led to by the verdict v is led to by an equal one
 by-verdict : {A : Type 0} (f : Refusal → A) (x : A) {u v : Verdict} {a : A} → u ≡ v → a ≡ refusedOr v f x → a ≡ refusedOr u f x
 by-verdict {A} f x l e = e ∙ ap (λ (w : Verdict). refusedOr {A = A} w f x) (sym l)
 
--- an outcome is promised by the numbers of its answer and the image that it leaves
-pub promised : {A : Type 0} (tells : A → Flat) {a : A} {after : Image} {o : Outcome A State} → outcome a (state after) ≡ o
-    → (tells a ≡ tells (o .answer)) × (after ≡ o .left .image)
-promised {A} tells e = (ap (λ (o : Outcome A State). tells (o .answer)) e, ap (λ (o : Outcome A State). o .left .image) e)
+-- a refusal accepts nothing
+pub not-accepted : {A : Type 0} {r : Refusal} → verdict.Refused r ≡ verdict.Accepted → A
+not-accepted e = absurd (false≢true (sym (ap refuses e)))
+
+-- what is lent is accepted and laid out, where the verdict says so
+module _ (m : Image) (cs : List Channel) (masks places : List ℕ) {v : Verdict} (e : v ≡ verdict.Accepted) where
+  pub lent-laid : (v ≡ lentVerdict (state m) cs) × (v ≡ verdict.Accepted → Laid cs masks places) → AcceptedLaid m cs masks places
+  lent-laid (d, laid) =
+      let l = lent-sound _ _ (sym d ∙ e) in
+      (l .0, l .1, laid e .0, laid e .1)
+
+  -- and the source is there
+  pub source-laid : (source : ℕ) → (v ≡ waitVerdict (state m) cs source) × (v ≡ verdict.Accepted → Laid cs masks places) → LaidSource m cs masks places source
+  source-laid source (d, laid) =
+      let w = sym d ∙ e in
+      let l = lent-sound _ _ (accepted-lent _ _ _ w) in
+      (l .0, l .1, laid e .0, laid e .1, accepted-source _ _ _ w)
 
 module _ (m m' : Image) (cs : List Channel) (v : Verdict) where
   -- a step that answers and leaves what the definition says by its verdict keeps the promise

@@ -1,10 +1,12 @@
 // The model with the channel list by value: the refusals of what is lent, the six steps, a step given as a word, runs, the wait report and the two bounds.
 // Any image, any list and any step gets an answer.
-mod runs;
-
 use bounds::bound_accepted;
+use channels::MASKS;
+use channels::PLACES;
+use channels::list_ok;
+use channels::no_masks;
+use channels::no_places;
 use dispatch::act;
-use dispatch::decode;
 use handlers::handler_bound_accepted;
 use rules::Answer;
 use rules::Bounded;
@@ -24,16 +26,26 @@ ghost use Rattle.rules.specs.Channels.{listOf};
 ghost use Rattle.rules.specs.Outcomes.{state};
 ghost use Rattle.rules.specs.Steps.{lentVerdict};
 ghost use Rattle.rules.specs.Runs.{waitVerdict};
+ghost use Rattle.channels.specs.Laid.{noMasks, noPlaces, Laid};
 ghost use Rattle.rules.specs.Promises.{Does, Reads, Writes, Triggers, Arbitrates, Returns, Resets, DoesWord, Runs, Waits, Bounds, HandlerBounds};
 
-// What is lent: refused with 1, then with 2.
-fn lent_verdict(image: &[u8], all: Channels) -> Verdict
-    ensures { λ v. ⌜ v ≡ lentVerdict (state (now (image .entry))) (listOf all) ⌝ }
+// What is lent: refused with 1, then with 2. A list that is accepted is laid out; one of no records is so from the start.
+fn lent_verdict(
+    image: &[u8],
+    all: Channels,
+    masks: &mut [u8; MASKS],
+    places: &mut [u16; PLACES],
+) -> Verdict
+    requires { ⌜ (now masks ≡ noMasks) × (now places ≡ noPlaces) ⌝ }
+    ensures { λ v. ⌜ (v ≡ lentVerdict (state (now (image .entry))) (listOf all)) × (v ≡ Verdict.Accepted → Laid (listOf all) (now (masks .exit)) (now (places .exit))) ⌝ }
 {
     if image.len() != IMAGE_LENGTH {
         return Verdict::Refused(Refusal::Length);
     }
-    if channels::list_ok(all) {
+    if all.count == 0 {
+        return Verdict::Accepted;
+    }
+    if list_ok(all, masks, places) {
         return Verdict::Accepted;
     }
     Verdict::Refused(Refusal::List)
@@ -43,8 +55,10 @@ fn lent_verdict(image: &[u8], all: Channels) -> Verdict
 fn one_step(image: &mut [u8], all: Channels, step: Step) -> Answer
     ensures { λ a. ⌜ Does (now (image .entry)) (listOf all) step a (now (image .exit)) ⌝ }
 {
-    match lent_verdict(image, all) {
-        Verdict::Accepted => act(image, all, step),
+    let mut masks = no_masks();
+    let mut places = no_places();
+    match lent_verdict(image, all, &mut masks, &mut places) {
+        Verdict::Accepted => act(image, all, &masks, &places, step),
         Verdict::Refused(r) => Answer::Refused(r),
     }
 }
@@ -53,8 +67,10 @@ fn one_step(image: &mut [u8], all: Channels, step: Step) -> Answer
 pub fn read(image: &[u8], all: Channels, register: u32) -> Answer
     ensures { λ a. ⌜ Reads (now (image .entry)) (listOf all) register a ⌝ }
 {
-    match lent_verdict(image, all) {
-        Verdict::Accepted => registers::read(image, all, register),
+    let mut masks = no_masks();
+    let mut places = no_places();
+    match lent_verdict(image, all, &mut masks, &mut places) {
+        Verdict::Accepted => registers::read(image, all, &masks, register),
         Verdict::Refused(r) => Answer::Refused(r),
     }
 }
@@ -98,24 +114,38 @@ pub fn reset(image: &mut [u8], all: Channels) -> Answer
 pub fn perform(image: &mut [u8], all: Channels, word: u64) -> Answer
     ensures { λ a. ⌜ DoesWord (now (image .entry)) (listOf all) word a (now (image .exit)) ⌝ }
 {
-    one_step(image, all, decode(word))
+    let mut masks = no_masks();
+    let mut places = no_places();
+    match lent_verdict(image, all, &mut masks, &mut places) {
+        Verdict::Accepted => runs::perform(image, all, &masks, &places, word),
+        Verdict::Refused(r) => Answer::Refused(r),
+    }
 }
 
 // A run: what is lent is checked once, then the steps are done one after another up to the first refused.
 pub fn run(image: &mut [u8], all: Channels, words: &[u64]) -> Ran
     ensures { λ r. ⌜ Runs (now (image .entry)) (listOf all) (now (words .entry)) r (now (image .exit)) ⌝ }
 {
-    match lent_verdict(image, all) {
-        Verdict::Accepted => run_accepted(image, all, words),
+    let mut masks = no_masks();
+    let mut places = no_places();
+    match lent_verdict(image, all, &mut masks, &mut places) {
+        Verdict::Accepted => run_accepted(image, all, &masks, &places, words),
         Verdict::Refused(r) => Ran::Refused(r),
     }
 }
 
 // What a wait report is refused with before any step: 1, 2, then 4 where there is no such source.
-fn wait_verdict(image: &[u8], all: Channels, source: u32) -> Verdict
-    ensures { λ v. ⌜ v ≡ waitVerdict (state (now (image .entry))) (listOf all) source ⌝ }
+fn wait_verdict(
+    image: &[u8],
+    all: Channels,
+    masks: &mut [u8; MASKS],
+    places: &mut [u16; PLACES],
+    source: u32,
+) -> Verdict
+    requires { ⌜ (now masks ≡ noMasks) × (now places ≡ noPlaces) ⌝ }
+    ensures { λ v. ⌜ (v ≡ waitVerdict (state (now (image .entry))) (listOf all) source) × (v ≡ Verdict.Accepted → Laid (listOf all) (now (masks .exit)) (now (places .exit))) ⌝ }
 {
-    match lent_verdict(image, all) {
+    match lent_verdict(image, all, masks, places) {
         Verdict::Accepted => {
             if (source as usize) < EXTERNALS + all.count {
                 return Verdict::Accepted;
@@ -130,8 +160,10 @@ fn wait_verdict(image: &[u8], all: Channels, source: u32) -> Verdict
 pub fn wait(image: &mut [u8], all: Channels, source: u32, words: &[u64]) -> Waited
     ensures { λ w. ⌜ Waits (now (image .entry)) (listOf all) source (now (words .entry)) w (now (image .exit)) ⌝ }
 {
-    match wait_verdict(image, all, source) {
-        Verdict::Accepted => wait_accepted(image, all, source, words),
+    let mut masks = no_masks();
+    let mut places = no_places();
+    match wait_verdict(image, all, &mut masks, &mut places, source) {
+        Verdict::Accepted => wait_accepted(image, all, &masks, &places, source, words),
         Verdict::Refused(r) => Waited::Refused(r),
     }
 }
@@ -140,8 +172,10 @@ pub fn wait(image: &mut [u8], all: Channels, source: u32, words: &[u64]) -> Wait
 pub fn bound(image: &[u8], all: Channels, source: u32, words: &[u64]) -> Bounded
     ensures { λ b. ⌜ Bounds (now (image .entry)) (listOf all) source (now (words .entry)) b ⌝ }
 {
-    match wait_verdict(image, all, source) {
-        Verdict::Accepted => bound_accepted(image, all, source, words),
+    let mut masks = no_masks();
+    let mut places = no_places();
+    match wait_verdict(image, all, &mut masks, &mut places, source) {
+        Verdict::Accepted => bound_accepted(image, all, &masks, &places, source, words),
         Verdict::Refused(r) => Bounded::Refused(r),
     }
 }
@@ -150,8 +184,10 @@ pub fn bound(image: &[u8], all: Channels, source: u32, words: &[u64]) -> Bounded
 pub fn handler_bound(image: &[u8], all: Channels, source: u32, words: &[u64]) -> Bounded
     ensures { λ b. ⌜ HandlerBounds (now (image .entry)) (listOf all) source (now (words .entry)) b ⌝ }
 {
-    match wait_verdict(image, all, source) {
-        Verdict::Accepted => handler_bound_accepted(image, all, source, words),
+    let mut masks = no_masks();
+    let mut places = no_places();
+    match wait_verdict(image, all, &mut masks, &mut places, source) {
+        Verdict::Accepted => handler_bound_accepted(image, all, &masks, &places, source, words),
         Verdict::Refused(r) => Bounded::Refused(r),
     }
 }

@@ -1,9 +1,9 @@
 // The registers: where a register number goes, read, write, reset, and the view of a page.
 mod table;
 
+use channels::MASKS;
 use channels::page_byte;
 use rules::Answer;
-use rules::Channel;
 use rules::Channels;
 use rules::EIPR;
 use rules::IMAGE_LENGTH;
@@ -20,13 +20,16 @@ use table::reset_bytes;
 use table::reset_masks;
 use table::row_place;
 ghost use mathlib.Core.Path.{_≡_};
+ghost use mathlib.Core.Bool.{cond};
 ghost use Prim.Native.Nat.{_≤_};
+ghost use lib.Dec.{eqb};
 ghost use lib.ListN.{length};
-ghost use Rattle.rules.specs.Image.{imageLength};
-ghost use Rattle.rules.specs.Channels.{mostRecords, listOf, Accepted};
+ghost use Rattle.rules.specs.Image.{imageLength, pageByte};
+ghost use Rattle.rules.specs.Channels.{listOf};
 ghost use Rattle.rules.specs.Outcomes.{outcome};
-ghost use Rattle.rules.specs.Registers.{pageZero, recordPlace, recordsPlace, placeOf, readOf, storedByte, lostBits, writeOf, resetOf, viewVerdict};
+ghost use Rattle.rules.specs.Registers.{pageZero, placeOf, readOf, storedByte, lostBits, writeOf, resetOf, viewVerdict};
 ghost use Rattle.rules.specs.Promises.{Views};
+ghost use Rattle.channels.specs.Laid.{bitsIn, placeBy, AcceptedMasks};
 
 // Where a register of page 0 goes.
 fn page_zero(register: u8) -> Place
@@ -41,46 +44,31 @@ fn page_zero(register: u8) -> Place
     Place::At(page_byte(0, register), existing_bits(register as usize))
 }
 
-// Where a register of a page goes, if it is one of the record's.
-fn record_place(c: Channel, page: u8, register: u8) -> Place
-    requires { ⌜ 240 ≤ register ⌝ }
-    ensures { λ p. ⌜ p ≡ recordPlace c page register ⌝ }
+// Where a register goes of a page that has no row: page 0 has registers of its own, the others have none.
+fn place_without_row(page: u8, register: u8) -> Place
+    ensures { λ p. ⌜ p ≡ cond (eqb page 0) (pageZero register) Place.Unmodelled ⌝ }
 {
-    if page != c.page {
-        return Place::Unmodelled;
-    }
-    if register == c.idcr {
-        return Place::At(page_byte(page, register), 0x3F);
-    }
-    if (register == c.ivr) | (register == c.dcpr) | (register == c.dapr) | (register == c.io) {
-        return Place::At(page_byte(page, register), 0xFF);
+    if page == 0 {
+        return page_zero(register);
     }
     Place::Unmodelled
 }
 
-// Where a register of a page goes, if it is one of any record's.
-fn records_place(all: Channels, page: u8, register: u8) -> Place
-    requires { ⌜ (all .count ≤ mostRecords) × (240 ≤ register) ⌝ }
-    ensures { λ p. ⌜ p ≡ recordsPlace (listOf all) page register ⌝ }
+// Where it goes of a page that has one: to its byte, if bits exist there.
+fn place_in_row(masks: &[u8; MASKS], row: u8, page: u8, register: u8) -> Place
+    requires { ⌜ (row ≤ 240) × (240 ≤ register) ⌝ }
+    ensures { λ p. ⌜ p ≡ placeBy (pageByte page register) (bitsIn (now (masks .entry)) row register) ⌝ }
 {
-    let mut k: usize = 0;
-    while k < all.count {
-        let c = all.items[k];
-        match record_place(c, page, register) {
-            Place::At(i, e) => {
-                return Place::At(i, e);
-            }
-            Place::Unmodelled => {
-                k += 1;
-            }
-        }
+    let bits = masks[(row as usize) + (register as usize) - 240];
+    if bits == 0 {
+        return Place::Unmodelled;
     }
-    Place::Unmodelled
+    Place::At(page_byte(page, register), bits)
 }
 
 // Where a register number goes, with the page that PPR selects.
-fn place_of(image: &[u8], all: Channels, register: u32) -> Place
-    requires { ⌜ Accepted (now image) (listOf all) ⌝ }
+fn place_of(image: &[u8], all: Channels, masks: &[u8; MASKS], register: u32) -> Place
+    requires { ⌜ AcceptedMasks (now image) (listOf all) (now masks) ⌝ }
     ensures { λ p. ⌜ p ≡ placeOf (now (image .entry)) (listOf all) register ⌝ }
 {
     if register < 240 {
@@ -92,18 +80,19 @@ fn place_of(image: &[u8], all: Channels, register: u32) -> Place
     }
     let r = register as u8;
     let page = image[PPR] / 4;
-    if page == 0 {
-        return page_zero(r);
+    let row = masks[page as usize];
+    if row == 0 {
+        return place_without_row(page, r);
     }
-    records_place(all, page, r)
+    place_in_row(masks, row, page, r)
 }
 
 // Reads a register: the stored byte with absent bits as 0.
-pub fn read(image: &[u8], all: Channels, register: u32) -> Answer
-    requires { ⌜ Accepted (now image) (listOf all) ⌝ }
+pub fn read(image: &[u8], all: Channels, masks: &[u8; MASKS], register: u32) -> Answer
+    requires { ⌜ AcceptedMasks (now image) (listOf all) (now masks) ⌝ }
     ensures { λ a. ⌜ a ≡ readOf (now (image .entry)) (listOf all) register ⌝ }
 {
-    match place_of(image, all, register) {
+    match place_of(image, all, masks, register) {
         Place::At(i, e) => Answer::Byte(image[i] & e),
         Place::Unmodelled => Answer::Refused(Refusal::Register),
     }
@@ -130,11 +119,17 @@ fn lost_bits(i: usize, old: u8, new: u8) -> u8
 }
 
 // Writes a register, and answers the pending bits that were lost.
-pub fn write(image: &mut [u8], all: Channels, register: u32, value: u8) -> Answer
-    requires { ⌜ Accepted (now image) (listOf all) ⌝ }
+pub fn write(
+    image: &mut [u8],
+    all: Channels,
+    masks: &[u8; MASKS],
+    register: u32,
+    value: u8,
+) -> Answer
+    requires { ⌜ AcceptedMasks (now image) (listOf all) (now masks) ⌝ }
     ensures { λ a. ⌜ outcome a (now (image .exit)) ≡ writeOf (now (image .entry)) (listOf all) register value ⌝ }
 {
-    match place_of(image, all, register) {
+    match place_of(image, all, masks, register) {
         Place::At(i, e) => {
             let old = image[i];
             let new = stored_byte(i, e, old, value);

@@ -1,6 +1,8 @@
 // Rules 3 to 5 of arbitration: who requests what, what is eligible, and the winner.
 use bits::has_bit;
-use channels::page_byte;
+use bits::put_bit;
+use channels::COUNT;
+use channels::PLACES;
 use rules::CICR;
 use rules::Channels;
 use rules::DM;
@@ -12,21 +14,18 @@ use rules::IEN;
 use rules::IM;
 use rules::IP;
 use rules::MOST_RECORDS;
-use rules::Request;
 use rules::Winner;
 ghost use mathlib.Core.Path.{_≡_};
-ghost use mathlib.Core.List.{List};
-ghost use Prim.Native.Nat.{_+_, _<_, _≤_, min};
+ghost use mathlib.Core.Bool.{cond};
+ghost use Prim.Native.Nat.{_+_, _<_, _≤_};
+ghost use lib.Dec.{eqb};
 ghost use lib.ListN.{length};
-ghost use Rattle.rules.specs.declared.Channel.{Channel};
 ghost use Rattle.rules.specs.Image.{imageLength};
-ghost use Rattle.rules.specs.Channels.{listOf, Accepted};
+ghost use Rattle.rules.specs.Channels.{listOf};
 ghost use Rattle.rules.specs.Sources.{externalLevel};
-ghost use Rattle.rules.specs.Requests.{requestOf, wonBy, winnerOf};
-ghost use Rattle.requests.specs.Ranks.{recordRequest, rankOf, positionLimit, NoneBelow, RanksBelow, scanned};
-
-// The most positions there can be.
-const POSITIONS: usize = EXTERNALS + MOST_RECORDS;
+ghost use Rattle.rules.specs.Requests.{wonBy, winnerOf};
+ghost use Rattle.channels.specs.Laid.{AcceptedPlaces};
+ghost use Rattle.requests.specs.Ranks.{recordRequest, limitsOf, interruptRank, rankOf, externalRank, rankAt, positionLimit, PlacesIn, Gathered, mayRequest, Lowest, IsFront, scanned};
 
 // The rank of what is not eligible; that of an eligible request is below it.
 const NO_RANK: u8 = 16;
@@ -39,114 +38,155 @@ pub fn external_level(eiplr: u8, k: u8) -> u8
     2 * ((eiplr >> (k / 2 * 2)) % 4) + k % 2
 }
 
-// What external channel k requests, whatever the channel list is.
-fn external_request(image: &[u8], k: u8) -> Request
-    requires { ⌜ (length (now image) ≡ imageLength) × (k < 8) ⌝ }
-    ensures { λ r. ⌜ ((cs : List Channel) → r ≡ requestOf (now (image .entry)) cs k) ⌝ }
-{
-    if has_bit(image[EIPR], k) {
-        if has_bit(image[EIMR], k) {
-            return Request::Interrupt(external_level(image[EIPLR], k));
-        }
-    }
-    Request::Nothing
+// What a level must be below to be eligible: a DMA request's, and an interrupt's.
+struct Limits {
+    dma: u8,
+    interrupt: u8,
 }
 
-// What a record requests, by its IDCR.
-fn request_by(idcr: u8) -> Request
-    ensures { λ r. ⌜ r ≡ recordRequest idcr ⌝ }
-{
-    if has_bit(idcr, IP) {
-        if has_bit(idcr, DM) {
-            return Request::Dma(idcr % 8);
-        }
-        if has_bit(idcr, IM) {
-            return Request::Interrupt(idcr % 8);
-        }
-    }
-    Request::Nothing
-}
-
-// The rank of a request: 2 * level + kind (0 DMA, 1 interrupt) where it is eligible.
-fn rank_of(image: &[u8], request: Request) -> u8
+fn limits_of(image: &[u8]) -> Limits
     requires { ⌜ length (now image) ≡ imageLength ⌝ }
-    ensures { λ r. ⌜ r ≡ rankOf (now (image .entry)) request ⌝ }
+    ensures { λ l. ⌜ l ≡ limitsOf (now (image .entry)) ⌝ }
 {
     let cicr = image[CICR];
-    match request {
-        Request::Nothing => NO_RANK,
-        Request::Dma(level) => {
-            if level < cicr % 8 {
-                return 2 * level;
-            }
-            NO_RANK
-        }
-        Request::Interrupt(level) => {
-            if has_bit(cicr, IEN) {
-                if level < cicr % 8 {
-                    return 2 * level + 1;
-                }
-            }
-            NO_RANK
-        }
+    let cpl = cicr % 8;
+    if has_bit(cicr, IEN) {
+        return Limits {
+            dma: cpl,
+            interrupt: cpl,
+        };
+    }
+    Limits {
+        dma: cpl,
+        interrupt: 0,
     }
 }
 
-// The smaller of two ranks.
-fn lower(a: u8, b: u8) -> u8
-    ensures { λ r. ⌜ r ≡ min a b ⌝ }
+// The rank of an interrupt request at a level.
+fn interrupt_rank(limit: u8, level: u8) -> u8
+    requires { ⌜ level < 8 ⌝ }
+    ensures { λ r. ⌜ r ≡ interruptRank limit level ⌝ }
 {
-    if a < b {
-        return a;
+    if level < limit {
+        return 2 * level + 1;
     }
-    b
+    NO_RANK
 }
 
-// The rank at each position, and a rank that none of them is below.
-struct Gathered {
-    ranks: [u8; POSITIONS],
-    least: u8,
-}
-
-// The ranks of the external channels.
-fn gather_externals(image: &[u8]) -> Gathered
-    requires { ⌜ length (now image) ≡ imageLength ⌝ }
-    ensures { λ g. ⌜ ((cs : List Channel) → RanksBelow (now (image .entry)) cs 8 (g .ranks) (g .least)) ⌝ }
+// The rank of what a record requests, by its IDCR: 2 * level + kind (0 DMA, 1 interrupt) where it is eligible.
+fn record_rank(idcr: u8, limits: Limits) -> u8
+    ensures { λ r. ⌜ r ≡ rankOf limits (recordRequest idcr) ⌝ }
 {
-    let mut ranks = [NO_RANK; POSITIONS];
-    let mut least = NO_RANK;
-    for k in 0..EXTERNALS {
-        let rank = rank_of(image, external_request(image, k as u8));
-        // Most channels have none: nothing to store.
-        if rank == NO_RANK {
+    if !has_bit(idcr, IP) {
+        return NO_RANK;
+    }
+    let level = idcr % 8;
+    if has_bit(idcr, DM) {
+        if level < limits.dma {
+            return 2 * level;
+        }
+        return NO_RANK;
+    }
+    if has_bit(idcr, IM) {
+        return interrupt_rank(limits.interrupt, level);
+    }
+    NO_RANK
+}
+
+// The rank of external channel k, by the channels that request: their EIPR and EIMR bits are 1.
+fn external_rank(limit: u8, eiplr: u8, requesting: u8, k: u8) -> u8
+    requires { ⌜ k < 8 ⌝ }
+    ensures { λ r. ⌜ r ≡ externalRank limit eiplr requesting k ⌝ }
+{
+    if has_bit(requesting, k) {
+        return interrupt_rank(limit, external_level(eiplr, k));
+    }
+    NO_RANK
+}
+
+// The rank at a position.
+fn rank_at(image: &[u8], places: &[u16; PLACES], limits: Limits, position: usize) -> u8
+    requires { ⌜ (length (now image) ≡ imageLength) × PlacesIn (now places) × (position < positionLimit) ⌝ }
+    ensures { λ r. ⌜ r ≡ rankAt limits (now (image .entry)) (now (places .entry)) position ⌝ }
+{
+    if position < EXTERNALS {
+        return external_rank(
+            limits.interrupt,
+            image[EIPLR],
+            image[EIPR] & image[EIMR],
+            position as u8,
+        );
+    }
+    record_rank(image[places[position - EXTERNALS] as usize], limits)
+}
+
+// The front of some positions: a rank that none of theirs is below, and a position that none of that rank is before.
+struct Front {
+    rank: u8,
+    position: usize,
+}
+
+// The number of the lowest bit that is 1.
+fn lowest(left: u8) -> u8
+    requires { ⌜ 0 < left ⌝ }
+    ensures { λ k. ⌜ Lowest left k ⌝ }
+{
+    u32::trailing_zeros(left as u32) as u8
+}
+
+// The front of the external channels; only those that request are looked at, and where the limit is 0 none is eligible.
+fn externals_front(limit: u8, eiplr: u8, requesting: u8) -> Front
+    ensures { λ a. ⌜ IsFront (externalRank limit eiplr requesting) 8 (a .rank) (a .position) ⌝ }
+{
+    if limit == 0 {
+        return Front {
+            rank: NO_RANK,
+            position: 0,
+        };
+    }
+    let mut rank = NO_RANK;
+    let mut position: usize = 0;
+    let mut left = requesting;
+    while left != 0 {
+        let k = lowest(left);
+        left = put_bit(left, k, false);
+        let r = interrupt_rank(limit, external_level(eiplr, k));
+        if rank <= r {
             continue;
         }
-        ranks[k] = rank;
-        least = lower(least, rank);
+        rank = r;
+        position = k as usize;
     }
-    Gathered { ranks, least }
+    Front { rank, position }
 }
 
-// The ranks of every position: one pass over the external channels and the records.
-fn gather(image: &[u8], all: Channels) -> Gathered
-    requires { ⌜ Accepted (now image) (listOf all) ⌝ }
-    ensures { λ g. ⌜ RanksBelow (now (image .entry)) (listOf all) (8 + all .count) (g .ranks) (g .least) ⌝ }
+// The front of the external channels and the records.
+fn records_front(
+    image: &[u8],
+    places: &[u16; PLACES],
+    limits: Limits,
+    externals: Front,
+    count: usize,
+) -> Front
+    requires { ⌜ (length (now image) ≡ imageLength) × PlacesIn (now places) × (count ≤ 12)
+        × IsFront (rankAt limits (now image) (now places)) 8 (externals .rank) (externals .position) ⌝ }
+    ensures { λ a. ⌜ IsFront (rankAt limits (now (image .entry)) (now (places .entry))) (8 + count) (a .rank) (a .position) ⌝ }
 {
-    let externals = gather_externals(image);
-    let mut ranks = externals.ranks;
-    let mut least = externals.least;
-    for k in 0..all.count {
-        let c = all.items[k];
-        let idcr = image[page_byte(c.page, c.idcr)];
-        let rank = rank_of(image, request_by(idcr));
-        // Most records have none, either.
-        if rank == NO_RANK {
+    let mut rank = externals.rank;
+    let mut position = externals.position;
+    for k in 0..count {
+        let r = record_rank(image[places[k] as usize], limits);
+        // Most records have none.
+        if r == NO_RANK {
             continue;
         }
-        ranks[EXTERNALS + k] = rank;
-        least = lower(least, rank);
+        if rank <= r {
+            continue;
+        }
+        rank = r;
+        position = EXTERNALS + k;
     }
-    Gathered { ranks, least }
+    Front { rank, position }
 }
 
 // The winner of a level, a kind and a position.
@@ -162,20 +202,37 @@ fn won(level: u8, kind: u8, position: u8) -> Winner
     }
 }
 
-// The first position of the first level and kind that some rank has. Ranks below the least are passed over.
-fn scan(ranks: [u8; POSITIONS], least: u8, positions: usize) -> Winner
-    requires { ⌜ (positions ≤ positionLimit) × NoneBelow ranks least ⌝ }
-    ensures { λ w. ⌜ w ≡ scanned ranks positions ⌝ }
+// Where the scan of a rank's positions starts.
+fn start_of(rank: u8, front: Front) -> usize
+    ensures { λ s. ⌜ s ≡ cond (eqb rank (front .rank)) (front .position) 0 ⌝ }
+{
+    if rank == front.rank {
+        return front.position;
+    }
+    0
+}
+
+// The first position of the first level and kind that some rank has. What is known to have none is passed over.
+fn scan(
+    image: &[u8],
+    places: &[u16; PLACES],
+    limits: Limits,
+    front: Front,
+    positions: usize,
+) -> Winner
+    requires { ⌜ (length (now image) ≡ imageLength) × PlacesIn (now places) × (positions ≤ positionLimit)
+        × IsFront (rankAt limits (now image) (now places)) positions (front .rank) (front .position) ⌝ }
+    ensures { λ w. ⌜ w ≡ scanned (rankAt limits (now (image .entry)) (now (places .entry))) positions ⌝ }
 {
     let mut winner = Winner::Nobody;
-    'scan: for level in 0..8 {
+    'scan: for level in front.rank / 2..8 {
         for kind in 0..2 {
             let rank = 2 * level + kind;
-            if rank < least {
+            if rank < front.rank {
                 continue;
             }
-            for position in 0..positions {
-                if ranks[position] == rank {
+            for position in start_of(rank, front)..positions {
+                if rank_at(image, places, limits, position) == rank {
                     winner = won(level, kind, position as u8);
                     break 'scan;
                 }
@@ -185,15 +242,71 @@ fn scan(ranks: [u8; POSITIONS], least: u8, positions: usize) -> Winner
     winner
 }
 
-// The winner: levels from 0 up, within a level DMA before interrupt, then positions from 0 up. Where nothing has a rank there is nothing to scan.
-pub fn winner_of(image: &[u8], all: Channels) -> Winner
-    requires { ⌜ Accepted (now image) (listOf all) ⌝ }
-    ensures { λ w. ⌜ w ≡ winnerOf (now (image .entry)) (listOf all) ⌝ }
+// The bits of all IDCRs, gathered: a bit that is 0 here is 0 in each of them. The mark, which is 0 where an arbitration comes to this, stands in for
+// records that are not there, so that the number of looks is fixed.
+fn gathered_bits(image: &[u8], places: &[u16; PLACES]) -> u8
+    requires { ⌜ (length (now image) ≡ imageLength) × PlacesIn (now places) ⌝ }
+    ensures { λ gathered. ⌜ Gathered (now (image .entry)) (now (places .entry)) 12 gathered ⌝ }
 {
-    let gathered = gather(image, all);
-    if gathered.least == NO_RANK {
+    let mut gathered: u8 = 0;
+    for k in 0..MOST_RECORDS {
+        gathered = gathered | image[places[k] as usize];
+    }
+    gathered
+}
+
+// Whether some record may request, by the gathered bits: an IP, and a DM or an IM. They may be of several records, so that none does.
+fn may_request(gathered: u8) -> bool
+    ensures { λ r. ⌜ r ≡ mayRequest gathered ⌝ }
+{
+    if !has_bit(gathered, IP) {
+        return false;
+    }
+    has_bit(gathered, DM) | has_bit(gathered, IM)
+}
+
+// The front of all positions. Where the gathered bits rule every record out, none is looked at.
+fn front_of(
+    image: &[u8],
+    places: &[u16; PLACES],
+    limits: Limits,
+    gathered: u8,
+    count: usize,
+) -> Front
+    requires { ⌜ (length (now image) ≡ imageLength) × PlacesIn (now places) × (count ≤ 12) × Gathered (now image) (now places) 12 gathered ⌝ }
+    ensures { λ a. ⌜ IsFront (rankAt limits (now (image .entry)) (now (places .entry))) (8 + count) (a .rank) (a .position) ⌝ }
+{
+    let externals = externals_front(limits.interrupt, image[EIPLR], image[EIPR] & image[EIMR]);
+    if may_request(gathered) {
+        return records_front(image, places, limits, externals, count);
+    }
+    externals
+}
+
+// The winner, where something may request.
+fn chosen(image: &[u8], places: &[u16; PLACES], gathered: u8, count: usize) -> Winner
+    requires { ⌜ (length (now image) ≡ imageLength) × PlacesIn (now places) × (count ≤ 12) × Gathered (now image) (now places) 12 gathered ⌝ }
+    ensures { λ w. ⌜ w ≡ scanned (rankAt (limitsOf (now (image .entry))) (now (image .entry)) (now (places .entry))) (8 + count) ⌝ }
+{
+    let limits = limits_of(image);
+    let front = front_of(image, places, limits, gathered, count);
+    if front.rank == NO_RANK {
         return Winner::Nobody;
     }
-    let ranks = gathered.ranks;
-    scan(ranks, gathered.least, EXTERNALS + all.count)
+    scan(image, places, limits, front, EXTERNALS + count)
+}
+
+// The winner: levels from 0 up, within a level DMA before interrupt, then positions from 0 up. Where no external channel requests and no record
+// may request there is nothing to look for.
+pub fn winner_of(image: &[u8], all: Channels, places: &[u16; PLACES]) -> Winner
+    requires { ⌜ AcceptedPlaces (now image) (listOf all) (now places) ⌝ }
+    ensures { λ w. ⌜ w ≡ winnerOf (now (image .entry)) (listOf all) ⌝ }
+{
+    let gathered = gathered_bits(image, places);
+    if (image[EIPR] & image[EIMR]) == 0 {
+        if !may_request(gathered) {
+            return Winner::Nobody;
+        }
+    }
+    chosen(image, places, gathered, places[COUNT] as usize)
 }

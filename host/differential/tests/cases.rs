@@ -13,7 +13,7 @@ use std::path::{Path, PathBuf};
 
 /// What `cases/` holds, so that a case that gets lost is seen.
 const TOTALS: Totals =
-    Totals { files: 22, cases: 742, distinct: 737, steps: 4988, calls: 626, expectations: 2165 };
+    Totals { files: 23, cases: 759, distinct: 754, steps: 5014, calls: 626, expectations: 2208 };
 
 #[derive(Debug, Default, PartialEq, Eq)]
 struct Totals {

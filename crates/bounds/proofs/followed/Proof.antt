@@ -16,25 +16,26 @@ use Rattle.rules.specs.Encodings.{stepsOf}
 use Rattle.rules.proofs.Counting.{one-le}
 use Rattle.bounds.specs.Followed.{rivalTriggered, followedFrom}
 use Rattle.dispatch.proofs.NextSteps.{next-word, no-word}
+use Rattle.runs.proofs.RunSteps.{as-decoded}
 use Rattle.bounds.proofs.FollowedSteps.{triggers-told, followed-start, followed-end, followed-other, followed-on}
 use Rattle.bounds.proofs.followed.Statement.{statement}
 use Rattle.bounds.proofs.followed.Tie as tie
 
 abbrev Inv-loop : tie.InvT-loop
-Inv-loop image all ours words copy₀ end disabled₀ triggers₀ done₀ copy disabled triggers done =
+Inv-loop image all masks places ours words copy₀ end disabled₀ triggers₀ done₀ copy disabled triggers done =
     (done ≤ length words) × (triggers ≤ done) × (length copy ≡ imageLength)
     × (followedFrom (rival image (listOf all) ours) (H image (listOf all) ours) end 0 end 0 (history (state image) (listOf all) (stepsOf words))
     ≡ followedFrom (rival image (listOf all) ours) (H image (listOf all) ours) end done disabled triggers (history (state copy) (listOf all) (stepsOf (drop done words))))
 
 abbrev μ-loop : tie.MeasureT-loop
-μ-loop image all ours words copy₀ end disabled₀ triggers₀ done₀ copy disabled triggers done = length words - done
+μ-loop image all masks places ours words copy₀ end disabled₀ triggers₀ done₀ copy disabled triggers done = length words - done
 
 -- a step is counted once at most
 counted-one : (c : tie.After-rival-trigger Inv-loop μ-loop) → c .rival-trigger .result ≤ 1
 counted-one c =
     let d = c .before .before .before .before .before in
     let s = d .before .before .before .before .before .before .before .before .before .before in
-    omega (arith, c .rival-trigger .ensures, one-le (rivalTriggered (now (s .args .image)) (listOf (s .args .all)) (s .args .ours) (d .before .before .before .decode .result) (d .act .result)))
+    omega (arith, c .rival-trigger .ensures, one-le (rivalTriggered (now (s .args .image)) (listOf (s .args .all)) (s .args .ours) (d .before .before .before .decode .result) (d .perform .result)))
 
 loop-holds : tie.Need-loop-holds Inv-loop μ-loop
 loop-holds c = (omega arith, omega arith, search needs, rw (c .copy-of .ensures))
@@ -48,7 +49,7 @@ returns c =
     sym (followed-start _ _ _ _ _
     ∙ i .3
     ∙ followed-other _ _ _ _ _
-    (next-word _ _ (i .2) (s .pre .1) (d .before .before .before .before .before .loop-test .taken) (d .before .before .before .decode .ensures) (d .act .ensures))
+    (next-word _ _ (i .2) (s .pre .1) (d .before .before .before .before .before .loop-test .taken) (d .before .before .before .decode .ensures) (as-decoded _ _ (d .before .before .before .decode .ensures) (d .perform .ensures)))
     _ (sym (c .before .other-step .ensures) ∙ c .if1 .taken))
 
 add-triggers : tie.Need-add-triggers Inv-loop μ-loop
@@ -60,13 +61,13 @@ loop-again c =
     let l = d .before .before .before .before .before .before in
     let i = l .loop .inv in
     let s = l .before .before .before .before in
-    let e = c .rival-trigger .ensures ∙ ap oneIf (sym (triggers-told _ _ (s .pre .1) (rival _ _ _) _ _ _ (d .act .ensures))) in (
-      omega arith,
+    let e = c .rival-trigger .ensures ∙ ap oneIf (sym (triggers-told _ _ (s .pre .1) (rival _ _ _) _ _ _ (as-decoded _ _ (d .before .before .before .decode .ensures) (d .perform .ensures)))) in (
+      omega (arith, d .before .before .before .before .before .loop-test .taken),
       omega (arith, counted-one c),
       search needs,
       rw (c .before .first-disabled .ensures, d .before .before .has-bit .ensures, e) (i .3
           ∙ followed-on _ _ _ _ _
-          (next-word _ _ (i .2) (s .pre .1) (d .before .before .before .before .before .loop-test .taken) (d .before .before .before .decode .ensures) (d .act .ensures))
+          (next-word _ _ (i .2) (s .pre .1) (d .before .before .before .before .before .loop-test .taken) (d .before .before .before .decode .ensures) (as-decoded _ _ (d .before .before .before .decode .ensures) (d .perform .ensures)))
           _ (sym (c .before .before .before .other-step .ensures) ∙ c .before .before .if1 .left) (d .before .before .before .before .before .loop-test .taken)),
     )
 
@@ -78,7 +79,7 @@ returns-2 c =
 within-requires : tie.Need-within-requires Inv-loop μ-loop
 within-requires c κs =
     let s = c .before .before .before .before .before .before in
-    (s .pre .0, s .pre .1, s .pre .2, omega arith)
+    (s .pre .0, s .pre .1, s .pre .4, omega arith)
 
 returns-3 : tie.Need-returns-3 Inv-loop μ-loop
 returns-3 c =

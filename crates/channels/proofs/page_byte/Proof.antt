@@ -1,5 +1,5 @@
--- The code is the definition.
-use mathlib.Core.Path.{refl}
+-- The code is the definition, with 240 taken away and added.
+use native.Mathlib.Omega.{arith}
 use borrow.Author.Needs.{needs}
 use Rattle.rules.specs.Image.{pageByte}
 use Rattle.channels.proofs.page_byte.Statement.{statement}
@@ -7,7 +7,7 @@ use Rattle.channels.proofs.page_byte.Tie as tie
 
 returns : tie.Need-returns
 unfolding pageByte
-returns c = refl
+returns c = omega (arith, c .pre)
 
 pub page-byte-spec : {M : Type 1} → statement M
-page-byte-spec = tie.close (tie.spec (λ c. search needs) (λ c. search needs) (λ c. search needs) (λ c. search needs) (λ c. search needs) returns)
+page-byte-spec = tie.close (tie.spec (λ c. search needs) (λ c. search needs) returns)

@@ -9,21 +9,21 @@ use Rattle.handlers.proofs.follow_write.Tie as tie
 raised-rivals-requires : tie.Need-raised-rivals-requires
 raised-rivals-requires c κs =
     let s = c .before .before .before .before .before .before .before .before .before .before .before .before .before .before .before .before in
-    (s .pre .0, search needs, search needs, s .pre .2, s .pre .3)
+    (s .pre .0, search needs, search needs, s .pre .2, s .pre .5)
 
 returns : tie.Need-returns
 returns c =
     let v = c .before .before .before .before .before .before .before .before in
     let d = v .before .before .before in
     let s = d .before .before .before .before .before .before in
-    follows-write _ _ _ _ _ _ _ _ (d .act .ensures) (s .pre .4) (ap refuses (sym (v .verdict-of .ensures) ∙ c .before .before .before .before .before .before .enum-told .given .1)) _ _
+    follows-write _ _ _ _ _ _ _ _ (d .perform .ensures) (s .pre .6) (ap refuses (sym (v .verdict-of .ensures) ∙ c .before .before .before .before .before .before .enum-told .given .1)) _ _
     (rw (← d .before .before .copy-of .ensures) (c .before .before .before .first-changed .ensures)) (rw (← d .before .before .copy-of .ensures) (c .raised-rivals .ensures))
 
 returns-2 : tie.Need-returns-2
 returns-2 c =
     let d = c .before .before .before .before .before in
     let s = d .before .before .before .before .before .before in
-    follows-refused _ _ _ _ _ _ _ _ (d .act .ensures) (s .pre .4) (ap refuses (sym (c .before .before .verdict-of .ensures) ∙ c .enum-told2 .given .1))
+    follows-refused _ _ _ _ _ _ _ _ (d .perform .ensures) (s .pre .6) (ap refuses (sym (c .before .before .verdict-of .ensures) ∙ c .enum-told2 .given .1))
 
 pub follow-write-spec : {M : Type 1} → statement M
 follow-write-spec {M} =

@@ -16,6 +16,7 @@ use Rattle.rules.proofs.Channels as S
 use Rattle.rules.proofs.WaitLaws.{lent-first, source-next, wait-accepted}
 use Rattle.rules.proofs.Refusals.{lent-sound}
 use Rattle.channels.proofs.ItemLaws.{count-short, list-count}
+use Rattle.machine.proofs.LentLaws.{not-accepted}
 use Rattle.machine.proofs.wait_verdict.Statement.{statement}
 use Rattle.machine.proofs.wait_verdict.Tie as tie
 
@@ -30,22 +31,26 @@ counts s all good v =
 add-if1 : tie.Need-add-if1
 add-if1 c =
     let d = c .before .before .before in
-    omega (arith, counts _ _ (d .before .before .good .1 .0) (sym (d .lent-verdict .ensures) ∙ c .before .enum-told .given .1) .0)
+    omega (arith, counts _ _ (d .before .before .before .before .good .1 .0) (sym (d .lent-verdict .ensures .0) ∙ c .before .enum-told .given .1) .0)
 
 returns : tie.Need-returns
 returns c =
-    let d = c .before .before .before .before in
-    let v = sym (d .lent-verdict .ensures) ∙ c .before .before .enum-told .given .1 in
-    sym (wait-accepted _ _ _ v (omega (arith, counts _ _ (d .before .before .good .1 .0) v .1)))
+    let e = c .before .before in
+    let d = e .before .before in
+    let v = sym (d .lent-verdict .ensures .0) ∙ e .enum-told .given .1 in (
+      sym (wait-accepted _ _ _ v (omega (arith, counts _ _ (d .before .before .before .before .good .1 .0) v .1))),
+      λ _. d .lent-verdict .ensures .1 (e .enum-told .given .1),
+    )
 
 returns-2 : tie.Need-returns-2
 returns-2 c =
-    let d = c .before .before .before .before in
-    let v = sym (d .lent-verdict .ensures) ∙ c .before .before .enum-told .given .1 in
-    sym (source-next _ _ _ v (omega (arith, counts _ _ (d .before .before .good .1 .0) v .1)))
+    let e = c .before .before in
+    let d = e .before .before in
+    let v = sym (d .lent-verdict .ensures .0) ∙ e .enum-told .given .1 in
+    (sym (source-next _ _ _ v (omega (arith, counts _ _ (d .before .before .before .before .good .1 .0) v .1))), λ e. not-accepted e)
 
 returns-3 : tie.Need-returns-3
-returns-3 c = sym (lent-first _ _ _ _ (sym (c .before .before .before .lent-verdict .ensures) ∙ c .before .r .given .1))
+returns-3 c = (sym (lent-first _ _ _ _ (sym (c .before .before .before .lent-verdict .ensures .0) ∙ c .before .r .given .1)), λ e. not-accepted e)
 
 pub wait-verdict-spec : {M : Type 1} → statement M
 wait-verdict-spec =
