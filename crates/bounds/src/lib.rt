@@ -14,7 +14,6 @@ use rules::Answer;
 use rules::Bounded;
 use rules::CICR;
 use rules::Channels;
-use rules::EXTERNALS;
 use rules::IAM;
 use rules::IEN;
 use rules::NICR;
@@ -29,6 +28,7 @@ use sources::is_rival;
 use sources::is_unmasked;
 use sources::level_of;
 use sources::pending_rivals;
+use sources::source_count;
 use targets::is_call;
 use targets::selected_in;
 use targets::target_of;
@@ -39,11 +39,11 @@ ghost use lib.ListN.{length};
 ghost use Rattle.rules.specs.Image.{imageLength};
 ghost use Rattle.rules.specs.Channels.{listOk, listOf};
 ghost use Rattle.rules.specs.Outcomes.{isRefused};
-ghost use Rattle.rules.specs.Sources.{sources, AcceptedSource};
+ghost use Rattle.rules.specs.Sources.{sources};
 ghost use Rattle.rules.specs.Runs.{oneIf};
 ghost use Rattle.rules.specs.Demand3.{isCall};
 ghost use Rattle.rules.specs.Bounds.{sourcePremises, startPremises};
-ghost use Rattle.channels.specs.Laid.{LaidSource};
+ghost use Rattle.channels.specs.Laid.{LaidPlaces, PlacesSource, LaidSource};
 ghost use Rattle.bounds.specs.Followed.{rivalTriggered, firstDisabled, withinOf, stepsBound, wordsBound, Decides};
 
 // Whether a step was done that is no trigger, arbitration or return; a refused one is none.
@@ -74,14 +74,21 @@ fn first_disabled(first: usize, end: usize, i: usize, step: Step, enabled: bool)
 
 // 1 where a step, by its answer, was a trigger of an unmasked source outranking ours on this image, else 0. A source that was triggered is there; that it is, is tested all the
 // same, since `is_rival` asks it and this function does not know where the answer comes from.
-pub fn rival_trigger(image: &[u8], all: Channels, ours: usize, step: Step, a: Answer) -> usize
-    requires { ⌜ AcceptedSource (now image) (listOf all) ours ⌝ }
+pub fn rival_trigger(
+    image: &[u8],
+    all: Channels,
+    places: &[u16; PLACES],
+    ours: usize,
+    step: Step,
+    a: Answer,
+) -> usize
+    requires { ⌜ PlacesSource (now image) (listOf all) (now places) ours ⌝ }
     ensures { λ n. ⌜ n ≡ oneIf (rivalTriggered (now (image .entry)) (listOf all) ours step a) ⌝ }
 {
     if selected_in(a) {
         let k = target_of(step);
-        if k < EXTERNALS + all.count {
-            if is_rival(image, all, ours, k) {
+        if k < source_count(all, places) {
+            if is_rival(image, all, places, ours, k) {
                 return 1;
             }
         }
@@ -90,11 +97,17 @@ pub fn rival_trigger(image: &[u8], all: Channels, ours: usize, step: Step, a: An
 }
 
 // H, E and the bound. A step counts twelve at most in E, and a lent slice of words has fewer than 2^60, so that the sum fits.
-pub fn within(image: &[u8], all: Channels, ours: usize, triggers: usize) -> Bounded
-    requires { ⌜ (length (now image) ≡ imageLength) × (listOk (listOf all) ≡ true) × (ours < sources (listOf all)) × (triggers ≤ 0xc000000000000000) ⌝ }
+pub fn within(
+    image: &[u8],
+    all: Channels,
+    places: &[u16; PLACES],
+    ours: usize,
+    triggers: usize,
+) -> Bounded
+    requires { ⌜ (length (now image) ≡ imageLength) × (listOk (listOf all) ≡ true) × LaidPlaces (listOf all) (now places) × (ours < sources (listOf all)) × (triggers ≤ 0xc000000000000000) ⌝ }
     ensures { λ b. ⌜ b ≡ withinOf (now (image .entry)) (listOf all) ours triggers ⌝ }
 {
-    let outranking = pending_rivals(image, all, ours);
+    let outranking = pending_rivals(image, all, places, ours);
     Bounded::Within {
         outranking,
         triggers,
@@ -128,13 +141,13 @@ fn followed(
             return Bounded::OtherStep { index: done };
         }
         disabled = first_disabled(disabled, end, done, step, enabled);
-        triggers += rival_trigger(image, all, ours, step, a);
+        triggers += rival_trigger(image, all, places, ours, step, a);
         done += 1;
     }
     if disabled < end {
         return Bounded::InterruptsDisabled { index: disabled };
     }
-    within(image, all, ours, triggers)
+    within(image, all, places, ours, triggers)
 }
 
 // Whether some premises hold, or the first of them that fails.
@@ -144,32 +157,32 @@ pub enum Premises {
 }
 
 // The premises on the source.
-fn source_premises(image: &[u8], all: Channels, ours: usize) -> Premises
-    requires { ⌜ AcceptedSource (now image) (listOf all) ours ⌝ }
+fn source_premises(image: &[u8], all: Channels, places: &[u16; PLACES], ours: usize) -> Premises
+    requires { ⌜ PlacesSource (now image) (listOf all) (now places) ours ⌝ }
     ensures { λ p. ⌜ Decides (sourcePremises (now (image .entry)) (listOf all) ours) p ⌝ }
 {
-    if !is_pending(image, all, ours) {
+    if !is_pending(image, all, places, ours) {
         return Premises::Fail(Bounded::NotPending);
     }
-    if !is_unmasked(image, all, ours) {
+    if !is_unmasked(image, all, places, ours) {
         return Premises::Fail(Bounded::Masked);
     }
-    if level_of(image, all, ours) < image[CICR] % 8 {
+    if level_of(image, all, places, ours) < image[CICR] % 8 {
         return Premises::Hold;
     }
     Premises::Fail(Bounded::LevelNotAbove)
 }
 
 // The premises on the start: on the image and the list, then on the source.
-pub fn start_premises(image: &[u8], all: Channels, source: u32) -> Premises
-    requires { ⌜ AcceptedSource (now image) (listOf all) source ⌝ }
+pub fn start_premises(image: &[u8], all: Channels, places: &[u16; PLACES], source: u32) -> Premises
+    requires { ⌜ PlacesSource (now image) (listOf all) (now places) source ⌝ }
     ensures { λ p. ⌜ Decides (startPremises (now (image .entry)) (listOf all) source) p ⌝ }
 {
     let cicr = image[CICR];
     if has_bit(cicr, IAM) {
         return Premises::Fail(Bounded::Nested);
     }
-    if any_dma(image, all) {
+    if any_dma(image, all, places) {
         return Premises::Fail(Bounded::DmaEnabled);
     }
     if has_bit(image[NICR], TLNM) | has_bit(cicr, TLI) {
@@ -178,7 +191,7 @@ pub fn start_premises(image: &[u8], all: Channels, source: u32) -> Premises
     if in_service(image) {
         return Premises::Fail(Bounded::TopLevelInService);
     }
-    source_premises(image, all, source as usize)
+    source_premises(image, all, places, source as usize)
 }
 
 // The premises on the start, then those on the steps.
@@ -193,7 +206,7 @@ pub fn bound_accepted(
     requires { ⌜ LaidSource (now image) (listOf all) (now masks) (now places) source ⌝ }
     ensures { λ b. ⌜ b ≡ wordsBound (now (image .entry)) (listOf all) source (now (words .entry)) ⌝ }
 {
-    match start_premises(image, all, source) {
+    match start_premises(image, all, places, source) {
         Premises::Hold => followed(image, all, masks, places, source as usize, words),
         Premises::Fail(b) => b,
     }

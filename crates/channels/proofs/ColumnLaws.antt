@@ -44,7 +44,7 @@ spread-same (v ∷ vs) p k q (suc s) i h e b =
 -- ---- the first k records
 
 -- they stand in the columns, and no later one
-pub record Placed (all : Channels) (p : List ℕ) (k : ℕ) : Type 0 where
+pub record Filled (all : Channels) (p : List ℕ) (k : ℕ) : Type 0 where
   pub long : length p ≡ placesLength
   pub before : (q l : ℕ) → q < 6 → l < k → getD p (12 * q + l) 0 ≡ getD (columnsOf (itemAt all l)) q 0
   pub after : (l : ℕ) → k ≤ l → l < mostRecords → getD p l 0 ≡ MARK
@@ -56,8 +56,8 @@ blank-length = length-set (replicate placesLength MARK) 72 0 ∙ length-replicat
 pub blank-place : (k : ℕ) → k < mostRecords → getD noPlaces k 0 ≡ MARK
 blank-place k h = getD-set-other (replicate placesLength MARK) 72 k 0 0 (omega arith) ∙ getD-replicate placesLength k MARK 0 (omega arith)
 
-pub placed-none : (all : Channels) → Placed all noPlaces 0
-placed-none all =
+pub filled-none : (all : Channels) → Filled all noPlaces 0
+filled-none all =
     record {
       long = blank-length;
       before = λ q l hq hl. absurd (not-suc-le-zero hl);
@@ -65,13 +65,13 @@ placed-none all =
     }
 
 -- record k laid after them
-pub placed-turn : (all : Channels) (p t : List ℕ) (k : ℕ) → k < mostRecords → Placed all p k
-    → t ≡ spread p k 0 (columnsOf (itemAt all k)) → Placed all t (k + 1)
-placed-turn all p t k h placed e =
+pub filled-turn : (all : Channels) (p t : List ℕ) (k : ℕ) → k < mostRecords → Filled all p k
+    → t ≡ spread p k 0 (columnsOf (itemAt all k)) → Filled all t (k + 1)
+filled-turn all p t k h filled e =
     rw e record {
-      long = spread-length new p k 0 ∙ placed .long;
+      long = spread-length new p k 0 ∙ filled .long;
       before = λ q l hq hl. at q l hq hl (ℕ-discrete l k);
-      after = λ l lo hi. spread-other new p k 0 l (λ s _ d. absurd (omega arith)) ∙ placed .after l (omega arith) hi;
+      after = λ l lo hi. spread-other new p k 0 l (λ s _ d. absurd (omega arith)) ∙ filled .after l (omega arith) hi;
     }
   where
     new : List ℕ
@@ -79,24 +79,23 @@ placed-turn all p t k h placed e =
 
     at : (q l : ℕ) → q < 6 → l < k + 1 → Dec (l ≡ k) → getD (spread p k 0 new) (12 * q + l) 0 ≡ getD (columnsOf (itemAt all l)) q 0
     at q l hq hl (yes d) =
-        spread-same new p k 0 q (12 * q + l) hq (omega arith) (omega (arith, placed .long))
+        spread-same new p k 0 q (12 * q + l) hq (omega arith) (omega (arith, filled .long))
         ∙ ap (λ (x : ℕ). getD (columnsOf (itemAt all x)) q 0) (sym d)
-    at q l hq hl (no d) = spread-other new p k 0 (12 * q + l) (λ s _ x. d (omega arith)) ∙ placed .before q l hq (omega arith)
+    at q l hq hl (no d) = spread-other new p k 0 (12 * q + l) (λ s _ x. d (omega arith)) ∙ filled .before q l hq (omega arith)
 
 -- all of them and the count: the list's places are laid out
 module _ (all : Channels) (full : length (all .items) ≡ mostRecords) (short : all .count ≤ mostRecords) where
-  pub placed-all : (p : List ℕ) → Placed all p (all .count) → LaidPlaces (listOf all) (set p 72 (all .count))
-  placed-all p placed =
+  pub filled-all : (p : List ℕ) → Filled all p (all .count) → LaidPlaces (listOf all) (set p 72 (all .count))
+  filled-all p filled =
       record {
-        size = length-set p 72 (all .count) ∙ placed .long;
         idcrs = λ k h. rw zero-add at (column 0 k (omega arith) h);
         ivrs = λ k. column 1 k (omega arith);
         dcprs = λ k. column 2 k (omega arith);
         daprs = λ k. column 3 k (omega arith);
         datas = λ k. column 4 k (omega arith);
         directions = λ k. column 5 k (omega arith);
-        others = λ k lo hi. getD-set-other p 72 k (all .count) 0 (omega arith) ∙ placed .after k (omega (arith, long)) hi;
-        count = getD-set-same p 72 (all .count) 0 (omega (arith, placed .long)) ∙ sym long;
+        others = λ k lo hi. getD-set-other p 72 k (all .count) 0 (omega arith) ∙ filled .after k (omega (arith, long)) hi;
+        count = getD-set-same p 72 (all .count) 0 (omega (arith, filled .long)) ∙ sym long;
       }
     where
       long : length (listOf all) ≡ all .count
@@ -106,5 +105,5 @@ module _ (all : Channels) (full : length (all .items) ≡ mostRecords) (short : 
           → getD (set p 72 (all .count)) (12 * q + k) 0 ≡ getD (columnsOf (recordAt (listOf all) k)) q 0
       column q k hq hk =
           let h : k < all .count = omega (arith, long) in
-          getD-set-other p 72 (12 * q + k) (all .count) 0 (omega arith) ∙ placed .before q k hq h
+          getD-set-other p 72 (12 * q + k) (all .count) 0 (omega arith) ∙ filled .before q k hq h
           ∙ ap (λ (c : Channel). getD (columnsOf c) q 0) (sym (listOf-at all full short k h))

@@ -21,20 +21,18 @@ use Rattle.rules.proofs.ChannelLaws.{registerByte, list-short, register-range}
 use Rattle.channels.specs.Laid.{noMasks, noPlaces, placesLength, bitsIn, bitsAt, placeBy, Laid, LaidMasks, LaidPlaces}
 use Rattle.channels.proofs.SpotLaws.{bitsOf}
 use Rattle.channels.proofs.RowLaws.{row-within, held-none}
-use Rattle.channels.proofs.ColumnLaws.{blank-length, blank-place}
+use Rattle.channels.proofs.ColumnLaws.{blank-place}
 
 -- an empty list is laid out by the blank arrays
 pub laid-none : Laid [] noMasks noPlaces
 unfolding bitsOf recordsPlace
 laid-none = (
   record {
-    size = held-none .size;
     rows = λ p h. row-within 0 (getD noMasks p 0) (held-none .few) (held-none .rows p h);
     none = held-none .none;
     place = λ p r hp lo hi. ap (placeBy (pageByte p r)) (sym (held-none .shows p r hp lo hi));
   },
   record {
-    size = blank-length;
     idcrs = λ k h. absurd (not-suc-le-zero h);
     ivrs = λ k h. absurd (not-suc-le-zero h);
     dcprs = λ k h. absurd (not-suc-le-zero h);

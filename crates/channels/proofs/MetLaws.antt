@@ -131,7 +131,6 @@ module _ (all : Channels) (full : length (all .items) ≡ mostRecords) (short : 
   pub checked-masks : (masks : List ℕ) → Checked all (all .count) masks → LaidMasks (listOf all) masks
   checked-masks masks checked =
       record {
-        size = checked .held .size;
         rows = λ p h. row-within (all .count) (getD masks p 0) short (checked .held .rows p h);
         none = checked .held .none;
         place = λ p r hp lo hi. met-place (listOf all) whole p r lo hi

@@ -27,7 +27,7 @@ noMasks = replicate masksLength 0
 abbrev pub bitsIn : List ℕ → ℕ → ℕ → ℕ
 bitsIn masks row r = getD masks (row + (r - 240)) 0
 
--- at register r of page p
+-- the bits that exist at register r of page p, 0 where the page has no row too
 unfoldable pub bitsAt : List ℕ → ℕ → ℕ → ℕ
 bitsAt masks p r = cond (eqb (getD masks p 0) 0) 0 (bitsIn masks (getD masks p 0) r)
 
@@ -37,7 +37,6 @@ placeBy i existing = cond (eqb existing 0) Unmodelled (At i existing)
 
 -- they are the list's: each register of a page goes where the records put it. A row lies within the masks, and page 0 has none.
 pub record LaidMasks (cs : List Channel) (masks : List ℕ) : Type 0 where
-  pub size : length masks ≡ masksLength
   pub rows : (p : ℕ) → p ≤ 63 → getD masks p 0 ≤ 240
   pub none : getD masks 0 0 ≡ 0
   pub place : (p r : ℕ) → p ≤ 63 → 240 ≤ r → r ≤ 255 → recordsPlace cs p r ≡ placeBy (pageByte p r) (bitsAt masks p r)
@@ -47,13 +46,12 @@ pub record LaidMasks (cs : List Channel) (masks : List ℕ) : Type 0 where
 abbrev pub placesLength : ℕ
 placesLength = 73
 
--- no record has a place
+-- no record has a place: the mark's byte fills them
 abbrev pub noPlaces : List ℕ
 noPlaces = set (replicate placesLength MARK) 72 0
 
 -- they are the list's: the bytes of IDCR, IVR, DCPR, DAPR and data, and the direction, of each record; for the IDCR of one that is not there the mark's
 pub record LaidPlaces (cs : List Channel) (places : List ℕ) : Type 0 where
-  pub size : length places ≡ placesLength
   pub idcrs : (k : ℕ) → k < length cs → getD places k 0 ≡ idcrByte (recordAt cs k)
   pub ivrs : (k : ℕ) → k < length cs → getD places (12 + k) 0 ≡ ivrByte (recordAt cs k)
   pub dcprs : (k : ℕ) → k < length cs → getD places (24 + k) 0 ≡ dcprByte (recordAt cs k)
@@ -63,17 +61,22 @@ pub record LaidPlaces (cs : List Channel) (places : List ℕ) : Type 0 where
   pub others : (k : ℕ) → length cs ≤ k → k < mostRecords → getD places k 0 ≡ MARK
   pub count : getD places 72 0 ≡ length cs
 
--- ---- what the contracts of the steps ask: an image and a list that are accepted (Channels `Accepted`), and the list laid out
+-- ---- both: what the check of a list leaves
 
 abbrev pub Laid : List Channel → List ℕ → List ℕ → Type 0
 Laid cs masks places = LaidMasks cs masks × LaidPlaces cs places
 
+-- ---- what the contracts of the steps ask: an image and a list that are accepted (Channels `Accepted`), and of the list laid out what they read:
+
+-- a read or a write,
 abbrev pub AcceptedMasks : Image → List Channel → List ℕ → Type 0
 AcceptedMasks m cs masks = (length m ≡ imageLength) × (listOk cs ≡ true) × LaidMasks cs masks
 
+-- a trigger or an arbitration,
 abbrev pub AcceptedPlaces : Image → List Channel → List ℕ → Type 0
 AcceptedPlaces m cs places = (length m ≡ imageLength) × (listOk cs ≡ true) × LaidPlaces cs places
 
+-- any step;
 abbrev pub AcceptedLaid : Image → List Channel → List ℕ → List ℕ → Type 0
 AcceptedLaid m cs masks places = (length m ≡ imageLength) × (listOk cs ≡ true) × LaidMasks cs masks × LaidPlaces cs places
 

@@ -1,4 +1,5 @@
-// The check of a channel list, refusal 2. It also lays the list out in two arrays of numbers, once a call, so that no step looks a record up.
+// The check of a channel list, refusal 2. It also lays the list out in two arrays of numbers, once a call, so that no step looks a record up. The list
+// itself goes along with them below: the contracts are over it.
 use rules::Channel;
 use rules::Channels;
 use rules::MOST_RECORDS;
@@ -19,7 +20,7 @@ pub const MASKS: usize = 256;
 const FIRST_ROW: u8 = 64;
 
 // The places: the bytes of the records' IDCRs and, from these on, of their IVR, DCPR, DAPR and data, and their directions, twelve each; last, how many
-// records there are.
+// records there are. No step reads the DAPRs before request §1, DMA into memory.
 pub const PLACES: usize = 73;
 
 pub const IVRS: usize = 12;
@@ -59,7 +60,7 @@ pub fn no_masks() -> [u8; MASKS]
     [0u8; MASKS]
 }
 
-// No record has a place yet: the mark's byte stands for it.
+// No record has a place yet. The mark's byte fills them, so that the twelve IDCRs can be gathered without a look at the count.
 pub fn no_places() -> [u16; PLACES]
     ensures { λ p. ⌜ p ≡ noPlaces ⌝ }
 {
@@ -68,7 +69,8 @@ pub fn no_places() -> [u16; PLACES]
     places
 }
 
-// The row of a page: its own or, where it has none yet, the k-th, which is its own from now on.
+// The row of a page: its own or, where it has none yet, the k-th, which is its own from now on. Rows are given out by the number of the record, so that
+// no other page has that one.
 fn row_of(masks: &mut [u8; MASKS], page: u8, k: usize) -> u8
     requires { ⌜ (page ≤ 63) × (k < mostRecords) ⌝ }
     ensures { λ row. ⌜ (row ≡ rowOf (now (masks .entry)) page k) × (now (masks .exit) ≡ set (now (masks .entry)) page row) ⌝ }

@@ -1,11 +1,11 @@
 // What a write changed of what the bound rests on, by the image before it and after it; and how many unmasked sources outranking ours it made pending.
 use bits::has_bit;
 use bounds::Premises;
+use channels::PLACES;
 use rules::Basis;
 use rules::Bounded;
 use rules::CICR;
 use rules::Channels;
-use rules::EXTERNALS;
 use rules::IAM;
 use rules::NICR;
 use rules::TLI;
@@ -15,6 +15,7 @@ use sources::is_pending;
 use sources::is_rival;
 use sources::is_unmasked;
 use sources::level_of;
+use sources::source_count;
 ghost use mathlib.Core.Path.{_≡_};
 ghost use mathlib.Core.Bool.{true};
 ghost use Prim.Native.Nat.{_<_};
@@ -24,6 +25,7 @@ ghost use Rattle.rules.specs.Channels.{listOk, listOf};
 ghost use Rattle.rules.specs.Sources.{sources};
 ghost use Rattle.rules.specs.Runs.{oneIf};
 ghost use Rattle.rules.specs.HandlerBounds.{differ, changes, bases};
+ghost use Rattle.channels.specs.Laid.{LaidPlaces};
 ghost use Rattle.handlers.specs.Handled.{sourceChanges, anySourceChanges, brokenWrite, raisesRival, raisedRivals};
 
 // How many things the bound rests on.
@@ -37,8 +39,15 @@ fn differ(a: bool, b: bool) -> bool
 }
 
 // Whether source k has another mask, DMA enable or level.
-fn source_changed(before: &[u8], after: &[u8], all: Channels, basis: Basis, k: usize) -> bool
-    requires { ⌜ (length (now before) ≡ imageLength) × (length (now after) ≡ imageLength) × (listOk (listOf all) ≡ true) × (k < sources (listOf all)) ⌝ }
+fn source_changed(
+    before: &[u8],
+    after: &[u8],
+    all: Channels,
+    places: &[u16; PLACES],
+    basis: Basis,
+    k: usize,
+) -> bool
+    requires { ⌜ (length (now before) ≡ imageLength) × (length (now after) ≡ imageLength) × (listOk (listOf all) ≡ true) × LaidPlaces (listOf all) (now places) × (k < sources (listOf all)) ⌝ }
     ensures { λ c. ⌜ c ≡ sourceChanges (listOf all) (now (before .entry)) (now (after .entry)) basis k ⌝ }
 {
     match basis {
@@ -46,23 +55,33 @@ fn source_changed(before: &[u8], after: &[u8], all: Channels, basis: Basis, k: u
         Basis::Mode => false,
         Basis::CurrentLevel => false,
         Basis::TopLevel => false,
-        Basis::Mask => differ(is_unmasked(after, all, k), is_unmasked(before, all, k)),
-        Basis::DmaEnable => differ(
-            is_dma_enabled(after, all, k),
-            is_dma_enabled(before, all, k),
+        Basis::Mask => differ(
+            is_unmasked(after, all, places, k),
+            is_unmasked(before, all, places, k),
         ),
-        Basis::Level => level_of(after, all, k) != level_of(before, all, k),
+        Basis::DmaEnable => differ(
+            is_dma_enabled(after, all, places, k),
+            is_dma_enabled(before, all, places, k),
+        ),
+        Basis::Level => level_of(after, all, places, k) != level_of(before, all, places, k),
     }
 }
 
 // Whether some source has.
-fn any_changed(before: &[u8], after: &[u8], all: Channels, basis: Basis) -> bool
-    requires { ⌜ (length (now before) ≡ imageLength) × (length (now after) ≡ imageLength) × (listOk (listOf all) ≡ true) ⌝ }
+fn any_changed(
+    before: &[u8],
+    after: &[u8],
+    all: Channels,
+    places: &[u16; PLACES],
+    basis: Basis,
+) -> bool
+    requires { ⌜ (length (now before) ≡ imageLength) × (length (now after) ≡ imageLength) × (listOk (listOf all) ≡ true) × LaidPlaces (listOf all) (now places) ⌝ }
     ensures { λ c. ⌜ c ≡ anySourceChanges (listOf all) (now (before .entry)) (now (after .entry)) basis ⌝ }
 {
+    let end = source_count(all, places);
     let mut k: usize = 0;
-    while k < EXTERNALS + all.count {
-        if source_changed(before, after, all, basis, k) {
+    while k < end {
+        if source_changed(before, after, all, places, basis, k) {
             return true;
         }
         k += 1;
@@ -71,21 +90,29 @@ fn any_changed(before: &[u8], after: &[u8], all: Channels, basis: Basis) -> bool
 }
 
 // Whether the write changed one thing that the bound rests on.
-fn changed(before: &[u8], after: &[u8], all: Channels, ours: usize, basis: Basis) -> bool
-    requires { ⌜ (length (now before) ≡ imageLength) × (length (now after) ≡ imageLength) × (listOk (listOf all) ≡ true) × (ours < sources (listOf all)) ⌝ }
+fn changed(
+    before: &[u8],
+    after: &[u8],
+    all: Channels,
+    places: &[u16; PLACES],
+    ours: usize,
+    basis: Basis,
+) -> bool
+    requires { ⌜ (length (now before) ≡ imageLength) × (length (now after) ≡ imageLength) × (listOk (listOf all) ≡ true) × LaidPlaces (listOf all) (now places) × (ours < sources (listOf all)) ⌝ }
     ensures { λ c. ⌜ c ≡ changes (listOf all) ours (now (before .entry)) (now (after .entry)) basis ⌝ }
 {
     match basis {
-        Basis::Pending => is_pending(before, all, ours) & !is_pending(after, all, ours),
+        Basis::Pending => is_pending(before, all, places, ours)
+            & !is_pending(after, all, places, ours),
         Basis::Mode => differ(has_bit(after[CICR], IAM), has_bit(before[CICR], IAM)),
         Basis::CurrentLevel => after[CICR] % 8 != before[CICR] % 8,
         Basis::TopLevel => {
             differ(has_bit(after[CICR], TLI), has_bit(before[CICR], TLI))
                 | differ(has_bit(after[NICR], TLNM), has_bit(before[NICR], TLNM))
         }
-        Basis::Mask => any_changed(before, after, all, basis),
-        Basis::DmaEnable => any_changed(before, after, all, basis),
-        Basis::Level => any_changed(before, after, all, basis),
+        Basis::Mask => any_changed(before, after, all, places, basis),
+        Basis::DmaEnable => any_changed(before, after, all, places, basis),
+        Basis::Level => any_changed(before, after, all, places, basis),
     }
 }
 
@@ -110,21 +137,28 @@ pub(crate) fn first_changed(
     before: &[u8],
     after: &[u8],
     all: Channels,
+    places: &[u16; PLACES],
     ours: usize,
     index: usize,
 ) -> Premises
-    requires { ⌜ (length (now before) ≡ imageLength) × (length (now after) ≡ imageLength) × (listOk (listOf all) ≡ true) × (ours < sources (listOf all)) ⌝ }
+    requires { ⌜ (length (now before) ≡ imageLength) × (length (now after) ≡ imageLength) × (listOk (listOf all) ≡ true) × LaidPlaces (listOf all) (now places) × (ours < sources (listOf all)) ⌝ }
     ensures { λ b. ⌜ b ≡ brokenWrite (listOf all) ours (now (before .entry)) (now (after .entry)) index ⌝ }
 {
     let mut k: usize = 0;
     while k < BASES {
         let basis = basis_at(k);
-        if changed(before, after, all, ours, basis) {
+        if changed(before, after, all, places, ours, basis) {
             return Premises::Fail(Bounded::Changed { basis, index });
         }
         k += 1;
     }
     Premises::Hold
+}
+
+// Two sources that are compared: ours, and source k.
+struct Compared {
+    ours: usize,
+    k: usize,
 }
 
 // 1 where the write made source k pending, and k is an unmasked source outranking ours at the start, else 0.
@@ -133,17 +167,17 @@ fn raised_rival(
     before: &[u8],
     after: &[u8],
     all: Channels,
-    ours: usize,
-    k: usize,
+    places: &[u16; PLACES],
+    compared: Compared,
 ) -> usize
-    requires { ⌜ (length (now start) ≡ imageLength) × (length (now before) ≡ imageLength) × (length (now after) ≡ imageLength) × (listOk (listOf all) ≡ true) × (ours < sources (listOf all)) × (k < sources (listOf all)) ⌝ }
-    ensures { λ n. ⌜ n ≡ oneIf (raisesRival (now (start .entry)) (listOf all) ours (now (before .entry)) (now (after .entry)) k) ⌝ }
+    requires { ⌜ (length (now start) ≡ imageLength) × (length (now before) ≡ imageLength) × (length (now after) ≡ imageLength) × (listOk (listOf all) ≡ true) × LaidPlaces (listOf all) (now places) × (compared .ours < sources (listOf all)) × (compared .k < sources (listOf all)) ⌝ }
+    ensures { λ n. ⌜ n ≡ oneIf (raisesRival (now (start .entry)) (listOf all) (compared .ours) (now (before .entry)) (now (after .entry)) (compared .k)) ⌝ }
 {
-    if is_pending(before, all, k) {
+    if is_pending(before, all, places, compared.k) {
         return 0;
     }
-    if is_pending(after, all, k) {
-        if is_rival(start, all, ours, k) {
+    if is_pending(after, all, places, compared.k) {
+        if is_rival(start, all, places, compared.ours, compared.k) {
             return 1;
         }
     }
@@ -156,15 +190,17 @@ pub(crate) fn raised_rivals(
     before: &[u8],
     after: &[u8],
     all: Channels,
+    places: &[u16; PLACES],
     ours: usize,
 ) -> usize
-    requires { ⌜ (length (now start) ≡ imageLength) × (length (now before) ≡ imageLength) × (length (now after) ≡ imageLength) × (listOk (listOf all) ≡ true) × (ours < sources (listOf all)) ⌝ }
+    requires { ⌜ (length (now start) ≡ imageLength) × (length (now before) ≡ imageLength) × (length (now after) ≡ imageLength) × (listOk (listOf all) ≡ true) × LaidPlaces (listOf all) (now places) × (ours < sources (listOf all)) ⌝ }
     ensures { λ n. ⌜ n ≡ raisedRivals (now (start .entry)) (listOf all) ours (now (before .entry)) (now (after .entry)) ⌝ }
 {
+    let end = source_count(all, places);
     let mut n: usize = 0;
     let mut k: usize = 0;
-    while k < EXTERNALS + all.count {
-        n += raised_rival(start, before, after, all, ours, k);
+    while k < end {
+        n += raised_rival(start, before, after, all, places, Compared { ours, k });
         k += 1;
     }
     n

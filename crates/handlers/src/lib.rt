@@ -45,7 +45,7 @@ pub struct Seen {
 }
 
 // A step that is followed, as its word and its index in the list; and our source.
-struct Asked {
+struct StepAt {
     ours: usize,
     word: u64,
     index: usize,
@@ -121,17 +121,17 @@ fn follow_write(
     all: Channels,
     masks: &[u8; MASKS],
     places: &[u16; PLACES],
-    asked: Asked,
+    at: StepAt,
 ) -> Seen
-    requires { ⌜ (length (now start) ≡ imageLength) × (length (now copy) ≡ imageLength) × (listOk (listOf all) ≡ true) × LaidMasks (listOf all) (now masks) × LaidPlaces (listOf all) (now places) × (asked .ours < sources (listOf all)) × (isWrite (decodeOf (asked .word)) ≡ true) ⌝ }
-    ensures { λ f. ⌜ Follows (now (start .entry)) (now (copy .entry)) (listOf all) (asked .ours) (decodeOf (asked .word)) (asked .index) f (now (copy .exit)) ⌝ }
+    requires { ⌜ (length (now start) ≡ imageLength) × (length (now copy) ≡ imageLength) × (listOk (listOf all) ≡ true) × LaidMasks (listOf all) (now masks) × LaidPlaces (listOf all) (now places) × (at .ours < sources (listOf all)) × (isWrite (decodeOf (at .word)) ≡ true) ⌝ }
+    ensures { λ f. ⌜ Follows (now (start .entry)) (now (copy .entry)) (listOf all) (at .ours) (decodeOf (at .word)) (at .index) f (now (copy .exit)) ⌝ }
 {
     let before = copy_of(copy);
-    let answer = perform(copy, all, masks, places, asked.word);
+    let answer = perform(copy, all, masks, places, at.word);
     match verdict_of(answer) {
         Verdict::Accepted => {
-            let broken = first_changed(&before, copy, all, asked.ours, asked.index);
-            let more = raised_rivals(start, &before, copy, all, asked.ours);
+            let broken = first_changed(&before, copy, all, places, at.ours, at.index);
+            let more = raised_rivals(start, &before, copy, all, places, at.ours);
             Seen {
                 answer,
                 broken,
@@ -153,14 +153,14 @@ fn follow(
     all: Channels,
     masks: &[u8; MASKS],
     places: &[u16; PLACES],
-    asked: Asked,
+    at: StepAt,
 ) -> Seen
-    requires { ⌜ (length (now start) ≡ imageLength) × (length (now copy) ≡ imageLength) × (listOk (listOf all) ≡ true) × LaidMasks (listOf all) (now masks) × LaidPlaces (listOf all) (now places) × (asked .ours < sources (listOf all)) ⌝ }
-    ensures { λ f. ⌜ Follows (now (start .entry)) (now (copy .entry)) (listOf all) (asked .ours) (decodeOf (asked .word)) (asked .index) f (now (copy .exit)) ⌝ }
+    requires { ⌜ (length (now start) ≡ imageLength) × (length (now copy) ≡ imageLength) × (listOk (listOf all) ≡ true) × LaidMasks (listOf all) (now masks) × LaidPlaces (listOf all) (now places) × (at .ours < sources (listOf all)) ⌝ }
+    ensures { λ f. ⌜ Follows (now (start .entry)) (now (copy .entry)) (listOf all) (at .ours) (decodeOf (at .word)) (at .index) f (now (copy .exit)) ⌝ }
 {
-    let step = decode(asked.word);
+    let step = decode(at.word);
     if is_file_write(step) {
-        let answer = perform(copy, all, masks, places, asked.word);
+        let answer = perform(copy, all, masks, places, at.word);
         return Seen {
             answer,
             broken: Premises::Hold,
@@ -168,12 +168,12 @@ fn follow(
         };
     }
     if is_write(step) {
-        return follow_write(start, copy, all, masks, places, asked);
+        return follow_write(start, copy, all, masks, places, at);
     }
     let disabled = is_arbitration(step) & !has_bit(copy[CICR], IEN);
-    let answer = perform(copy, all, masks, places, asked.word);
-    let broken = broken_call(step, answer, disabled, asked.index);
-    let more = rival_trigger(start, all, asked.ours, step, answer);
+    let answer = perform(copy, all, masks, places, at.word);
+    let broken = broken_call(step, answer, disabled, at.index);
+    let more = rival_trigger(start, all, places, at.ours, step, answer);
     Seen {
         answer,
         broken,
@@ -198,12 +198,12 @@ fn followed(
     let mut triggers: usize = 0;
     let mut done: usize = 0;
     while done < words.len() {
-        let asked = Asked {
+        let at = StepAt {
             ours,
             word: words[done],
             index: done,
         };
-        let f = follow(image, &mut copy, all, masks, places, asked);
+        let f = follow(image, &mut copy, all, masks, places, at);
         let broken = f.broken;
         match broken {
             Premises::Fail(b) => {
@@ -214,12 +214,12 @@ fn followed(
                 done += 1;
                 let answer = f.answer;
                 if acknowledged(answer, source) {
-                    return within(image, all, ours, triggers);
+                    return within(image, all, places, ours, triggers);
                 }
             }
         }
     }
-    within(image, all, ours, triggers)
+    within(image, all, places, ours, triggers)
 }
 
 // The premises on the start, then those on the steps.
@@ -234,7 +234,7 @@ pub fn handler_bound_accepted(
     requires { ⌜ LaidSource (now image) (listOf all) (now masks) (now places) source ⌝ }
     ensures { λ b. ⌜ b ≡ wordsBound (now (image .entry)) (listOf all) source (now (words .entry)) ⌝ }
 {
-    match start_premises(image, all, source) {
+    match start_premises(image, all, places, source) {
         Premises::Hold => followed(image, all, masks, places, source, words),
         Premises::Fail(b) => b,
     }

@@ -96,7 +96,7 @@ pub fn unpacked(bytes: &[u8]) -> Channels
         return blank(MOST_RECORDS + 1);
     }
     let n = bytes.len() / RECORD_BYTES;
-    // Returned as it is made: the compiler would copy a list that is filled.
+    // Returned here, so that the 92 bytes of an empty list are not copied.
     if n == 0 {
         return blank(0);
     }

@@ -29,7 +29,8 @@ ghost use Rattle.rules.specs.Runs.{waitVerdict};
 ghost use Rattle.channels.specs.Laid.{noMasks, noPlaces, Laid};
 ghost use Rattle.rules.specs.Promises.{Does, Reads, Writes, Triggers, Arbitrates, Returns, Resets, DoesWord, Runs, Waits, Bounds, HandlerBounds};
 
-// What is lent: refused with 1, then with 2. A list that is accepted is laid out; one of no records is so from the start.
+// What is lent: refused with 1, then with 2. A list that is accepted is laid out; one of no records is so from the start, and
+// `list_ok` would copy it.
 fn lent_verdict(
     image: &[u8],
     all: Channels,

@@ -6,7 +6,7 @@ use Rattle.rules.specs.declared.Channel.{Channel}
 use Rattle.rules.specs.declared.Answer.{Answer}
 use Rattle.rules.specs.declared.Answer.the-variants as answer
 use Rattle.rules.specs.Outcomes.{State, Outcome, outcome}
-use Rattle.rules.specs.Runs.{Event, stateAfter, stepsDone, lastAnswer, runEvents}
+use Rattle.rules.specs.Runs.{stateAfter, stepsDone, lastAnswer, runEvents}
 use Rattle.rules.specs.Encodings.{stepsOf}
 use Rattle.runs.specs.declared.Stopped.{Stopped}
 

@@ -26,8 +26,8 @@ struct Stopped {
     last: Answer,
 }
 
-// The steps one after another, up to the first refused. All that is done step by step is done here: `act` has this one caller, so that the compiler puts
-// the steps' code into the loop.
+// The steps one after another, up to the first refused. In the archive `act` has this one caller (the steps by name of `machine` are not in it), so that
+// the compiler puts the steps' code into the loop.
 fn steps_of(
     image: &mut [u8],
     all: Channels,

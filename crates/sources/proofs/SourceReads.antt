@@ -1,31 +1,23 @@
--- What a source has, by the bytes that the code reads, and how many sources a list by value has. Assumes nothing.
+-- What a source has, by the bytes that the code reads, and how many sources a list has. Assumes nothing.
 use mathlib.Core.Path.{_≡_, refl}
 use mathlib.Core.Bool.{Bool, true, false, cond}
 use mathlib.Core.List.{List}
 use Prim.Native.Nat.{ℕ, _+_, _%_, _≤_, _<_}
 use native.Mathlib.Omega.{arith}
-use mir.Val.{Val}
-use denote.Laws.{Is}
 use borrow.Author.Tests.{lt-ltb, le-ltb}
 use Rattle.bits.specs.Bits.{bit}
 use Rattle.rules.specs.declared.Channel.{Channel}
-use Rattle.rules.specs.declared.Channels.{Channels}
 use Rattle.rules.specs.Image.{Image, at, bitOf, has, EIPR, EIMR, EIPLR}
-use Rattle.rules.specs.Channels.{idcrByte, listOk, listOf, IP, IM}
+use Rattle.rules.specs.Channels.{idcrByte, listOk, IP, IM}
 use Rattle.rules.specs.Sources.{sources, external, recordOf, pendingBit, pending, unmasked, dmaEnabled, externalLevel, level}
 use Rattle.rules.specs.Demand3.{pendingOf}
-use Rattle.rules.proofs.Channels as S
 use Rattle.rules.proofs.Counting.{pendingOf-le}
-use Rattle.channels.proofs.ItemLaws.{list-count, count-short}
+use Rattle.rules.proofs.ChannelLaws.{list-short}
 
--- the external channels, and the records that the list counts
-pub source-count : (all : Channels) {vs : List Val} → Is S.the-row all vs → listOk (listOf all) ≡ true → sources (listOf all) ≡ 8 + all .count
+-- no more are pending than there are
+pub few-pending : (cs : List Channel) → listOk cs ≡ true → (m : Image) (among : ℕ → Bool) → pendingOf m cs among ≤ 20
 unfolding sources
-source-count all good ok = omega (arith, list-count all good ok)
-
--- no more are pending than there are, twenty at most
-pub few-pending : (all : Channels) {vs : List Val} → Is S.the-row all vs → listOk (listOf all) ≡ true → (m : Image) (among : ℕ → Bool) → pendingOf m (listOf all) among ≤ 20
-few-pending all good ok m among = omega (arith, pendingOf-le m (listOf all) among, source-count all good ok, count-short all good ok)
+few-pending cs ok m among = omega (arith, pendingOf-le m cs among, list-short cs ok)
 
 module _ (m : Image) (cs : List Channel) (s : ℕ) where
   -- the definitions' bits, each as one of a register or one of IDCR

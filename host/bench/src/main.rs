@@ -25,7 +25,7 @@ use std::process::ExitCode;
 use traces::{Trace, SITUATIONS};
 
 /// The width of a table's first column, the situation's name.
-const NAME: usize = 38;
+const NAME: usize = 42;
 
 fn main() -> ExitCode {
     let arguments: Vec<String> = env::args().skip(1).collect();

@@ -32,10 +32,12 @@ pub struct Trace {
 }
 
 /// The rows of the tables.
-pub const SITUATIONS: [fn() -> Trace; 10] = [
+pub const SITUATIONS: [fn() -> Trace; 12] = [
     nothing_requests,
     all_masked,
+    one_masked,
     last_record,
+    without_arbitration,
     all_twenty,
     read,
     write,
@@ -105,9 +107,31 @@ fn all_masked() -> Trace {
     run("twelve pending, all masked", note, image_with(&channels(), idcr::IP | 6), words)
 }
 
+/// A pending record that is masked beside records that are unmasked and not pending: nothing requests, but their bits together look as if.
+fn one_masked() -> Trace {
+    let note =
+        "arbitrations, the last record with IP = 1, DM = IM = 0, the others with IP = 0, IM = 1";
+    let channels = channels();
+    let mut image = quiet_image(&channels);
+    image[paged(channels[11].page, channels[11].idcr)] = idcr::IP | 6;
+    run("one pending, masked, beside eleven idle", note, image, vec![word::arbitrate(); STEPS])
+}
+
 fn last_record() -> Trace {
     let note = "[request 11, arbitrate, return] repeated, interrupt of the last record at level 6, CPL 7; all three steps count";
     run("last record", note, quiet_image(&channels()), rounds(word::request(11)))
+}
+
+/// The round of the last record without its arbitration: three times the row before less twice this one is the arbitration alone.
+fn without_arbitration() -> Trace {
+    let note = "[request 11, return] repeated";
+    let round = [word::request(11), word::return_from()];
+    run(
+        "last record, without the arbitration",
+        note,
+        quiet_image(&channels()),
+        round.repeat(STEPS / 2),
+    )
 }
 
 /// The level of an odd external channel is odd, so with EIPLR FFh four of the twenty are at level 7. Source 0 comes first and wins each time: its own

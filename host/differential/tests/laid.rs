@@ -1,5 +1,5 @@
-//! What a list that is laid out once a call could get wrong (request §3): every register of every page, and every way in which a few records and external
-//! channels can request. With `--nocapture` the counts are printed.
+//! What a list that is laid out once a call could get wrong (request §3): every register of every page; and every choice of IP, DM and IM of three records
+//! and of EIPR and EIMR of two external channels, at eighteen choices of CICR and levels. With `--nocapture` the counts are printed.
 
 use differential::{generate, Pair, Random};
 use model::{paged, word, Channel, IMAGE_LENGTH};

@@ -79,7 +79,7 @@ returns-2 c =
 within-requires : tie.Need-within-requires Inv-loop μ-loop
 within-requires c κs =
     let s = c .before .before .before .before .before .before in
-    (s .pre .0, s .pre .1, s .pre .4, omega arith)
+    (s .pre .0, s .pre .1, s .pre .3, s .pre .4, omega arith)
 
 returns-3 : tie.Need-returns-3 Inv-loop μ-loop
 returns-3 c =

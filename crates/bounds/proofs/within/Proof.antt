@@ -13,16 +13,16 @@ use Rattle.bounds.proofs.within.Tie as tie
 few : (c : tie.After-pending-rivals) → c .pending-rivals .result ≤ 20
 few c =
     let s = c .before .before in
-    omega (arith, c .pending-rivals .ensures, few-pending _ (s .good .1 .0) (s .pre .1) (now (s .args .image)) (rival (now (s .args .image)) (listOf (s .args .all)) (s .args .ours)))
-
-add-t6 : tie.Need-add-t6
-add-t6 c = omega (arith, few c)
+    omega (arith, c .pending-rivals .ensures, few-pending _ (s .pre .1) (now (s .args .image)) (rival (now (s .args .image)) (listOf (s .args .all)) (s .args .ours)))
 
 add-t7 : tie.Need-add-t7
 add-t7 c = omega (arith, few c)
+
+add-t8 : tie.Need-add-t8
+add-t8 c = omega (arith, few c)
 
 returns : tie.Need-returns
 returns c = rw (c .pending-rivals .ensures)
 
 pub within-spec : {M : Type 1} → statement M
-within-spec = tie.close (tie.spec (λ c κs. search needs) add-t6 add-t7 returns)
+within-spec = tie.close (tie.spec (λ c κs. search needs) add-t7 add-t8 returns)

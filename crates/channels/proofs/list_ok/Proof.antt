@@ -13,13 +13,13 @@ use Rattle.rules.proofs.ChannelLaws.{record-in-range}
 use Rattle.rules.proofs.Twelve.{twelve}
 use Rattle.channels.proofs.ItemLaws.{itemAt}
 use Rattle.channels.proofs.MetLaws.{Checked, checked-none, checked-out, row-low, checked-twice, checked-turn, checked-ok, checked-masks}
-use Rattle.channels.proofs.ColumnLaws.{Placed, placed-none, placed-turn, placed-all}
+use Rattle.channels.proofs.ColumnLaws.{Filled, filled-none, filled-turn, filled-all}
 use Rattle.channels.proofs.list_ok.Statement.{statement}
 use Rattle.channels.proofs.list_ok.Tie as tie
 
 abbrev Inv-loop : tie.InvT-loop
 Inv-loop masks₀ places₀ all k₀ masks places k =
-    (k ≤ all .count) × (all .count ≤ mostRecords) × (length (all .items) ≡ mostRecords) × Checked all k masks × Placed all places k
+    (k ≤ all .count) × (all .count ≤ mostRecords) × (length (all .items) ≡ mostRecords) × Checked all k masks × Filled all places k
 
 abbrev μ-loop : tie.MeasureT-loop
 μ-loop masks₀ places₀ all k₀ masks places k = all .count - k
@@ -35,7 +35,7 @@ loop-holds c =
     let all = d .args .t1 in
     let full = twelve all _ (d .good .0) in
     let short : all .count ≤ mostRecords = omega (arith, c .if1 .left) in
-    (search needs, short, full, rw (d .pre .0) (checked-none all full short), rw (d .pre .1) (placed-none all))
+    (search needs, short, full, rw (d .pre .0) (checked-none all full short), rw (d .pre .1) (filled-none all))
 
 returns-2 : tie.Need-returns-2 Inv-loop μ-loop
 returns-2 c =
@@ -95,7 +95,7 @@ loop-again c =
       i .2,
       checked-turn _ (i .2) (i .1) _ _ (i .3) (t .loop-test .taken) ok _ (o .row-of .ensures .0) _ (o .row-of .ensures .1) _ _
           (s .see-record .ensures) (not-false _ (c .before .before .if3 .left)),
-      placed-turn _ _ _ _ (omega (arith, t .loop-test .taken, i .1)) (i .4) (c .lay-record .ensures),
+      filled-turn _ _ _ _ (omega (arith, t .loop-test .taken, i .1)) (i .4) (c .lay-record .ensures),
     )
 
 returns-4 : tie.Need-returns-4 Inv-loop μ-loop
@@ -106,7 +106,7 @@ returns-4 c =
     let e : l .loop .k ≡ all .count = omega arith in
     let checked = subst (λ (k : ℕ). Checked all k (l .loop .masks)) e (i .3) in (
       sym (checked-ok all (i .2) (i .1) _ checked),
-      λ _. (checked-masks all (i .2) (i .1) _ checked, placed-all all (i .2) (i .1) _ (subst (Placed all (l .loop .places)) e (i .4))),
+      λ _. (checked-masks all (i .2) (i .1) _ checked, filled-all all (i .2) (i .1) _ (subst (Filled all (l .loop .places)) e (i .4))),
     )
 
 pub list-ok-spec : {M : Type 1} → statement M

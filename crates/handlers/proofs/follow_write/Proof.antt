@@ -9,7 +9,7 @@ use Rattle.handlers.proofs.follow_write.Tie as tie
 raised-rivals-requires : tie.Need-raised-rivals-requires
 raised-rivals-requires c κs =
     let s = c .before .before .before .before .before .before .before .before .before .before .before .before .before .before .before .before in
-    (s .pre .0, search needs, search needs, s .pre .2, s .pre .5)
+    (s .pre .0, search needs, search needs, s .pre .2, s .pre .4, s .pre .5)
 
 returns : tie.Need-returns
 returns c =

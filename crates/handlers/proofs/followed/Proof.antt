@@ -55,7 +55,7 @@ within-requires : tie.Need-within-requires Inv-loop μ-loop
 within-requires c κs =
     let f = c .before .before .before .before .before .before in
     let s = f .before .before .before .before .before .before .before .before in
-    (s .pre .0, s .pre .1, s .pre .4, omega (arith, few f))
+    (s .pre .0, s .pre .1, s .pre .3, s .pre .4, omega (arith, few f))
 
 returns-2 : tie.Need-returns-2 Inv-loop μ-loop
 returns-2 c =
@@ -88,7 +88,7 @@ loop-again c =
 within-requires-2 : tie.Need-within-requires-2 Inv-loop μ-loop
 within-requires-2 c κs =
     let s = c .before .before .before .before .before in
-    (s .pre .0, s .pre .1, s .pre .4, omega arith)
+    (s .pre .0, s .pre .1, s .pre .3, s .pre .4, omega arith)
 
 returns-3 : tie.Need-returns-3 Inv-loop μ-loop
 returns-3 c = sym (followed-start _ _ _ _ ∙ c .before .before .loop .inv .3 ∙ followed-end _ _ _ _ _ _ _ (no-word _ _ (c .before .loop-test .left)) ∙ sym (c .within2 .ensures))

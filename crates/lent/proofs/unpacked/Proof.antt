@@ -4,7 +4,6 @@ use Prim.Native.Nat.{_≤_, _-_, _%_, min}
 use native.Mathlib.Omega.{arith}
 use lib.ListN.{length, getD}
 use borrow.Author.Needs.{needs}
-use Rattle.rules.specs.declared.Channels.{Channels}
 use Rattle.rules.specs.Channels.{mostRecords, noChannel}
 use Rattle.rules.specs.Encodings.{recordLength, listIn}
 use Rattle.rules.proofs.PackedLaws.{list-in-length, list-in-at}

@@ -56,8 +56,7 @@ cast-row c = omega (arith, c .shared-slice-known2 .given PPR)
 
 element-copy-out-row : tie.Need-element-copy-out-row
 element-copy-out-row c =
-    let s = c .before .before .before .before in
-    omega (arith, c .shared-slice-known2 .given PPR, s .pre .2 .size)
+    omega (arith, c .shared-slice-known2 .given PPR)
 
 returns-3 : tie.Need-returns-3
 returns-3 c =

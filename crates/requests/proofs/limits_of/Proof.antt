@@ -1,14 +1,10 @@
--- The code makes the definition's test.
-use mathlib.Core.Path.{sym, _∙_}
+-- Each limit is the definition's.
 use borrow.Author.Needs.{needs}
 use Rattle.requests.proofs.limits_of.Statement.{statement}
 use Rattle.requests.proofs.limits_of.Tie as tie
 
 returns : tie.Need-returns
-returns c = simp (sym (c .before .has-bit .ensures) ∙ c .if1 .taken)
-
-returns-2 : tie.Need-returns-2
-returns-2 c = simp (sym (c .before .has-bit .ensures) ∙ c .if1 .left)
+returns c = rw (c .interrupt-limit .ensures)
 
 pub limits-of-spec : {M : Type 1} → statement M
-limits-of-spec = tie.close (tie.spec (λ c. search needs) (λ c κs. search needs) returns returns-2)
+limits-of-spec = tie.close (tie.spec (λ c. search needs) (λ c κs. search needs) returns)

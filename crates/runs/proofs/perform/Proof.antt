@@ -1,5 +1,4 @@
 -- A list of one word stops after it, with its answer.
-use mathlib.Core.Path.{_≡_}
 use borrow.Author.Needs.{needs}
 use Rattle.runs.proofs.RunSteps.{step-stopped}
 use Rattle.runs.proofs.perform.Statement.{statement}

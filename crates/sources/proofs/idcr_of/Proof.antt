@@ -1,33 +1,29 @@
--- The item is record k of the list, and its IDCR is the byte of the definition, on its page and so within the image.
+-- The place is the byte of the definition, within the image.
+use mathlib.Core.Path.{_≡_}
 use native.Mathlib.Omega.{arith}
-use Rattle.rules.specs.Channels.{idcrByte}
-use Rattle.channels.proofs.ItemLaws.{Taken, item-taken}
+use denote.Ref.{now}
+use Rattle.rules.specs.Channels.{listOf}
+use Rattle.channels.proofs.LaidLaws.{Placed, record-placed}
 use Rattle.sources.proofs.idcr_of.Statement.{statement}
 use Rattle.sources.proofs.idcr_of.Tie as tie
 
--- what is known of item k
-item : (s : tie.Start) → Taken (s .args .t2) (s .args .k)
-item s = item-taken _ (s .good .1 .0) (s .pre .1) _ (s .pre .2)
+placed : (s : tie.Start) → Placed (listOf (s .args .all)) (now (s .args .places)) (s .args .k)
+placed s = record-placed (s .pre .1) (s .pre .2) _ (s .pre .3)
 
-mul-c : tie.Need-mul-c
-mul-c c = omega (arith, item (c .before) .there)
+mul-result : tie.Need-mul-result
+mul-result c = omega (arith, placed c .within)
 
-element-copy-out-c : tie.Need-element-copy-out-c
-element-copy-out-c c = item (c .before) .there
+element-copy-out-result : tie.Need-element-copy-out-result
+element-copy-out-result c = omega (arith, placed c .within)
 
-page-byte-requires : tie.Need-page-byte-requires
-page-byte-requires c κs = item (c .before .before) .range .register-low 0 (omega arith)
+cast-result : tie.Need-cast-result
+cast-result c = omega (arith, placed (c .before) .idcr .1)
 
 shared-slice-read-result : tie.Need-shared-slice-read-result
-shared-slice-read-result c =
-    let s = c .before .before .before .before in
-    omega (arith, s .pre .0, item s .place 0 (omega arith) _ (c .before .page-byte .ensures) .1)
+shared-slice-read-result c = let s = c .before .before in omega (arith, s .pre .0, placed s .idcr .1)
 
 returns : tie.Need-returns
-unfolding idcrByte
-returns c = simp (item (c .before .before .before .before) .same, c .before .page-byte .ensures)
+returns c = rw (placed (c .before .before) .idcr .0)
 
 pub idcr-of-spec : {M : Type 1} → statement M
-idcr-of-spec =
-    tie.close
-    (tie.spec mul-c element-copy-out-c page-byte-requires shared-slice-read-result returns)
+idcr-of-spec = tie.close (tie.spec mul-result element-copy-out-result cast-result shared-slice-read-result returns)

@@ -3,7 +3,8 @@ use mathlib.Core.Path.{sym, ap, _∙_}
 use native.Mathlib.Omega.{arith}
 use borrow.Author.Needs.{needs}
 use Rattle.bits.specs.Bits.{bit}
-use Rattle.sources.proofs.SourceReads.{source-count, external-reads, record-reads}
+use Rattle.sources.proofs.SourceReads.{external-reads, record-reads}
+use Rattle.channels.proofs.LaidLaws.{source-placed}
 use Rattle.sources.proofs.is_dma_enabled.Statement.{statement}
 use Rattle.sources.proofs.is_dma_enabled.Tie as tie
 
@@ -13,7 +14,7 @@ returns c = sym (external-reads _ _ _ (c .if1 .taken) .enables)
 idcr-of-requires : tie.Need-idcr-of-requires
 idcr-of-requires c κs =
     let s = c .before .before in
-    (s .pre .0, s .pre .1, omega (arith, source-count _ (s .good .1 .0) (s .pre .1)))
+    (s .pre .0, s .pre .1, s .pre .2, source-placed (s .pre .1) (s .pre .2) _ (c .if1 .left) (s .pre .3) .there)
 
 returns-2 : tie.Need-returns-2
 returns-2 c = c .has-bit .ensures ∙ ap (bit 4) (c .before .idcr-of .ensures) ∙ sym (record-reads _ _ _ (c .before .before .if1 .left) .enables)

@@ -4,7 +4,7 @@ use native.Mathlib.Omega.{arith}
 use borrow.Author.Needs.{needs}
 use borrow.Author.Tests.{lt-ltb, le-ltb}
 use Rattle.bits.specs.Bits.{bit}
-use Rattle.sources.proofs.SourceReads.{source-count}
+use Rattle.channels.proofs.LaidLaws.{source-placed}
 use Rattle.sources.proofs.source_bit.Statement.{statement}
 use Rattle.sources.proofs.source_bit.Tie as tie
 
@@ -14,7 +14,7 @@ returns c = rw (lt-ltb _ _ (c .before .before .if1 .taken)) (c .has-bit .ensures
 idcr-of-requires : tie.Need-idcr-of-requires
 idcr-of-requires c κs =
     let s = c .before .before in
-    (s .pre .0, s .pre .1, omega (arith, source-count _ (s .good .1 .0) (s .pre .1)))
+    (s .pre .0, s .pre .1, s .pre .2, source-placed (s .pre .1) (s .pre .2) _ (c .if1 .left) (s .pre .3) .there)
 
 returns-2 : tie.Need-returns-2
 returns-2 c = rw (le-ltb _ _ (c .before .before .if1 .left)) (c .has-bit2 .ensures ∙ ap (bit _) (c .before .idcr-of .ensures))

@@ -39,7 +39,8 @@ pub fn arbitrate(image: &mut Image, tables: &Tables) -> Result<Answer, Refusal> 
     }
     let externals = image[EIPR] & image[EIMR];
     let idcrs = tables.idcrs.iter().fold(0, |bits, place| bits | image[usize::from(*place)]);
-    if externals == 0 && idcrs & idcr::IP == 0 {
+    let no_record = idcrs & idcr::IP == 0 || idcrs & (idcr::DM | idcr::IM) == 0;
+    if externals == 0 && no_record {
         return Ok(Answer::Nothing);
     }
     match winner(image, tables, cicr, externals, idcrs) {

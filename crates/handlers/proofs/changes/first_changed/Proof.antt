@@ -18,13 +18,13 @@ use Rattle.handlers.proofs.changes.first_changed.Statement.{statement}
 use Rattle.handlers.proofs.changes.first_changed.Tie as tie
 
 abbrev Inv-loop : tie.InvT-loop
-Inv-loop before after all ours index k₀ k =
+Inv-loop before after all places ours index k₀ k =
     (k ≤ 7)
     × (firstChanged (changes (listOf all) ours before after) bases index
     ≡ firstChanged (changes (listOf all) ours before after) (drop k bases) index)
 
 abbrev μ-loop : tie.MeasureT-loop
-μ-loop before after all ours index k₀ k = 7 - k
+μ-loop before after all places ours index k₀ k = 7 - k
 
 -- the k-th is the first of those from k on: answered where it changed, else passed over
 module _ (p : Basis → Bool) (i k : ℕ) (b : Basis) (h : k < 7) (e : b ≡ getD bases k basis.Pending) where

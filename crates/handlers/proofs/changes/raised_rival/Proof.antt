@@ -9,7 +9,7 @@ use Rattle.handlers.proofs.changes.raised_rival.Statement.{statement}
 use Rattle.handlers.proofs.changes.raised_rival.Tie as tie
 
 -- it was not pending where the first test is passed
-not-yet : (c : tie.Else1) → let a = c .before .before .before .before .before .args in pending (now (a .before)) (listOf (a .all)) (a .k) ≡ false
+not-yet : (c : tie.Else1) → let a = c .before .before .before .before .before .args in pending (now (a .before)) (listOf (a .all)) (a .compared .k) ≡ false
 not-yet c = sym (c .before .is-pending .ensures) ∙ c .if1 .left
 
 returns : tie.Need-returns
