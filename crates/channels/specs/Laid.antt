@@ -66,7 +66,7 @@ pub record LaidPlaces (cs : List Channel) (places : List ℕ) : Type 0 where
 abbrev pub Laid : List Channel → List ℕ → List ℕ → Type 0
 Laid cs masks places = LaidMasks cs masks × LaidPlaces cs places
 
--- ---- what the contracts of the steps ask: an image and a list that are accepted (Channels `Accepted`), and of the list laid out what they read:
+-- ---- what the contracts of the steps ask: an image of 1,265 bytes, a list within the rules, and of the list laid out what they read:
 
 -- a read or a write,
 abbrev pub AcceptedMasks : Image → List Channel → List ℕ → Type 0

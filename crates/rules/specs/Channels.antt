@@ -1,6 +1,5 @@
 -- Document 01, "The image": the channel list, the places of a record's registers, the bits of its IDCR, and the rules on the list (refusal 2).
 -- Assumes nothing.
-use mathlib.Core.Path.{_≡_}
 use mathlib.Core.Bool.{Bool, true, false, cond, not, _&&_, _||_}
 use mathlib.Core.List.{List, [], _∷_, _++_}
 use Prim.Native.Nat.{ℕ, _%_}
@@ -8,7 +7,7 @@ use lib.Dec.{eqb, ltb, leb}
 use lib.ListN.{length, getD, take}
 use Rattle.rules.specs.declared.Channel.{Channel}
 use Rattle.rules.specs.declared.Channels.{Channels}
-use Rattle.rules.specs.Image.{Image, imageLength, at, pageByte, Bit, bitOf}
+use Rattle.rules.specs.Image.{Image, at, pageByte, Bit, bitOf}
 
 -- a list has at most twelve records
 abbrev pub mostRecords : ℕ
@@ -90,10 +89,6 @@ allBytes (channel ∷ cs) = recordBytes channel ++ allBytes cs
 -- the rules on a list. No (page, register) pair occurs twice: two pairs in range are equal exactly if their bytes are.
 unfoldable pub listOk : List Channel → Bool
 listOk cs = leb (length cs) mostRecords && recordsOk cs && distinct (allBytes cs)
-
--- what is accepted of what is lent, as the contracts of the core name it: an image of 1,265 bytes and a list within the rules
-abbrev pub Accepted : Image → List Channel → Type 0
-Accepted m cs = (length m ≡ imageLength) × (listOk cs ≡ true)
 
 -- the list that a list by value, as the core has it, stands for: its first `count` items; where the count is over twelve one of thirteen, which `listOk` refuses
 unfoldable pub listOf : Channels → List Channel

@@ -1,24 +1,19 @@
 -- Document 01, "The image", "Arbitration" and "Runs and the wait report": the sources, and what each has pending, unmasked and at which level.
 -- Sources 0 to 7 are the external channels INTA0, INTA1, INTB0 .. INTD1; source 8 + k is record k.
 -- Assumes nothing.
-use mathlib.Core.Path.{_≡_}
-use mathlib.Core.Bool.{Bool, true, false, cond}
+use mathlib.Core.Bool.{Bool, false, cond}
 use mathlib.Core.List.{List}
-use Prim.Native.Nat.{ℕ, _+_, _-_, _*_, _/_, _%_, _<_}
+use Prim.Native.Nat.{ℕ, _+_, _-_, _*_, _/_, _%_}
 use lib.Dec.{ltb}
 use lib.ListN.{length}
 use Rattle.bits.specs.Bits.{digit}
 use Rattle.rules.specs.declared.Channel.{Channel}
-use Rattle.rules.specs.Image.{Image, imageLength, at, EIPR, EIMR, EIPLR, Bit, bitOf, has}
-use Rattle.rules.specs.Channels.{recordAt, IP, DM, IM, PRL, listOk}
+use Rattle.rules.specs.Image.{Image, at, EIPR, EIMR, EIPLR, Bit, bitOf, has}
+use Rattle.rules.specs.Channels.{recordAt, IP, DM, IM, PRL}
 
 -- how many sources there are
 unfoldable pub sources : List Channel → ℕ
 sources cs = 8 + length cs
-
--- what is lent is accepted (Channels), and a source is there
-abbrev pub AcceptedSource : Image → List Channel → ℕ → Type 0
-AcceptedSource m cs source = (length m ≡ imageLength) × (listOk cs ≡ true) × (source < sources cs)
 
 -- an external channel
 abbrev pub external : ℕ → Bool
