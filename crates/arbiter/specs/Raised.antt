@@ -36,5 +36,5 @@ abbrev pub Acknowledges : Image → List Channel → ℕ → ℕ → Answer → 
 Acknowledges before cs source level answered after = outcome answered after ≡ granted before cs (winner.Interrupt source level)
 
 -- what a DMA service asks: what is lent is accepted, the list laid out (Laid), and the source a record's
-abbrev pub PlacesRecord : Image → List Channel → List ℕ → ℕ → Type 0
-PlacesRecord m cs places source = (length m ≡ imageLength) × (listOk cs ≡ true) × LaidPlaces cs places × (8 ≤ source) × (source < sources cs)
+abbrev pub AcceptedPlacesRecord : Image → List Channel → List ℕ → ℕ → Type 0
+AcceptedPlacesRecord m cs places source = (length m ≡ imageLength) × (listOk cs ≡ true) × LaidPlaces cs places × (8 ≤ source) × (source < sources cs)

@@ -15,12 +15,12 @@ ghost use mathlib.Core.Path.{_≡_};
 ghost use Prim.Native.Nat.{_<_};
 ghost use Rattle.rules.specs.Channels.{listOf};
 ghost use Rattle.rules.specs.Arbitration.{vectorOf, cleared};
-ghost use Rattle.channels.specs.Laid.{PlacesSource};
+ghost use Rattle.channels.specs.Laid.{AcceptedPlacesSource};
 ghost use Rattle.arbiter.specs.Raised.{Acknowledges};
 
 // EIVR's upper half plus 2k, or IVR with bit 0 cleared.
 fn vector_of(image: &[u8], all: Channels, places: &[u16; PLACES], source: u8) -> u8
-    requires { ⌜ PlacesSource (now image) (listOf all) (now places) source ⌝ }
+    requires { ⌜ AcceptedPlacesSource (now image) (listOf all) (now places) source ⌝ }
     ensures { λ v. ⌜ v ≡ vectorOf (now (image .entry)) (listOf all) source ⌝ }
 {
     let s = source as usize;
@@ -32,7 +32,7 @@ fn vector_of(image: &[u8], all: Channels, places: &[u16; PLACES], source: u8) ->
 
 // Clears the source's EIPR or IP bit.
 fn clear_pending(image: &mut [u8], all: Channels, places: &[u16; PLACES], source: u8)
-    requires { ⌜ PlacesSource (now image) (listOf all) (now places) source ⌝ }
+    requires { ⌜ AcceptedPlacesSource (now image) (listOf all) (now places) source ⌝ }
     ensures { λ _. ⌜ now (image .exit) ≡ cleared (now (image .entry)) (listOf all) source ⌝ }
 {
     let s = source as usize;
@@ -51,7 +51,7 @@ pub(crate) fn acknowledge(
     source: u8,
     level: u8,
 ) -> Answer
-    requires { ⌜ PlacesSource (now image) (listOf all) (now places) source × (level < 8) ⌝ }
+    requires { ⌜ AcceptedPlacesSource (now image) (listOf all) (now places) source × (level < 8) ⌝ }
     ensures { λ a. ⌜ Acknowledges (now (image .entry)) (listOf all) source level a (now (image .exit)) ⌝ }
 {
     let vector = vector_of(image, all, places, source);

@@ -21,7 +21,7 @@ ghost use Rattle.rules.specs.Channels.{listOf};
 ghost use Rattle.rules.specs.Outcomes.{outcome};
 ghost use Rattle.rules.specs.Sources.{recordOf};
 ghost use Rattle.rules.specs.Transfer.{lastRegister, movedByte, lessOne, settled, served, transferOf};
-ghost use Rattle.arbiter.specs.Raised.{PlacesRecord};
+ghost use Rattle.arbiter.specs.Raised.{AcceptedPlacesRecord};
 
 // The pair Rn, R(n+1), as it was read first: an address and a counter.
 struct Pair {
@@ -32,7 +32,7 @@ struct Pair {
 
 // Moves a byte between the data register and Ra.
 fn move_byte(image: &mut [u8], all: Channels, places: &[u16; PLACES], source: usize, a: u8)
-    requires { ⌜ PlacesRecord (now image) (listOf all) (now places) source ⌝ }
+    requires { ⌜ AcceptedPlacesRecord (now image) (listOf all) (now places) source ⌝ }
     ensures { λ _. ⌜ now (image .exit) ≡ movedByte (now (image .entry)) (recordOf (listOf all) source) a ⌝ }
 {
     let io = places[DATAS + (source - EXTERNALS)] as usize;
@@ -62,7 +62,7 @@ fn advance(image: &mut [u8], n: usize, address: u8, count: u8)
 
 // IP is cleared; at the end of a block DM is, and IP becomes IM.
 fn settle(image: &mut [u8], all: Channels, places: &[u16; PLACES], source: usize, ended: bool)
-    requires { ⌜ PlacesRecord (now image) (listOf all) (now places) source ⌝ }
+    requires { ⌜ AcceptedPlacesRecord (now image) (listOf all) (now places) source ⌝ }
     ensures { λ _. ⌜ now (image .exit) ≡ settled (now (image .entry)) (recordOf (listOf all) source) ended ⌝ }
 {
     let idcr = places[source - EXTERNALS] as usize;
@@ -77,7 +77,7 @@ fn settle(image: &mut [u8], all: Channels, places: &[u16; PLACES], source: usize
 
 // The transfer over a pair; what its registers become is written after the move.
 fn serve(image: &mut [u8], all: Channels, places: &[u16; PLACES], source: u8, pair: Pair) -> Answer
-    requires { ⌜ PlacesRecord (now image) (listOf all) (now places) source × (pair .n ≤ lastRegister) × (pair .address ≤ lastRegister) ⌝ }
+    requires { ⌜ AcceptedPlacesRecord (now image) (listOf all) (now places) source × (pair .n ≤ lastRegister) × (pair .address ≤ lastRegister) ⌝ }
     ensures { λ a. ⌜ outcome a (now (image .exit)) ≡ served (now (image .entry)) (recordOf (listOf all) source) source (pair .n) (pair .address) (pair .count) ⌝ }
 {
     let left = less_one(pair.count);
@@ -95,7 +95,7 @@ pub(crate) fn transfer(
     places: &[u16; PLACES],
     source: u8,
 ) -> Answer
-    requires { ⌜ PlacesRecord (now image) (listOf all) (now places) source ⌝ }
+    requires { ⌜ AcceptedPlacesRecord (now image) (listOf all) (now places) source ⌝ }
     ensures { λ a. ⌜ outcome a (now (image .exit)) ≡ transferOf (now (image .entry)) (recordOf (listOf all) source) source ⌝ }
 {
     let dcpr = image[places[DCPRS + ((source as usize) - EXTERNALS)] as usize];

@@ -43,7 +43,7 @@ ghost use Rattle.rules.specs.Sources.{sources};
 ghost use Rattle.rules.specs.Runs.{oneIf};
 ghost use Rattle.rules.specs.Demand3.{isCall};
 ghost use Rattle.rules.specs.Bounds.{sourcePremises, startPremises};
-ghost use Rattle.channels.specs.Laid.{LaidPlaces, PlacesSource, LaidSource};
+ghost use Rattle.channels.specs.Laid.{LaidPlaces, AcceptedPlacesSource, AcceptedLaidSource};
 ghost use Rattle.bounds.specs.Followed.{rivalTriggered, firstDisabled, withinOf, stepsBound, wordsBound, Decides};
 
 // Whether a step was done that is no trigger, arbitration or return; a refused one is none.
@@ -82,7 +82,7 @@ pub fn rival_trigger(
     step: Step,
     a: Answer,
 ) -> usize
-    requires { ⌜ PlacesSource (now image) (listOf all) (now places) ours ⌝ }
+    requires { ⌜ AcceptedPlacesSource (now image) (listOf all) (now places) ours ⌝ }
     ensures { λ n. ⌜ n ≡ oneIf (rivalTriggered (now (image .entry)) (listOf all) ours step a) ⌝ }
 {
     if selected_in(a) {
@@ -124,7 +124,7 @@ fn followed(
     ours: usize,
     words: &[u64],
 ) -> Bounded
-    requires { ⌜ LaidSource (now image) (listOf all) (now masks) (now places) ours ⌝ }
+    requires { ⌜ AcceptedLaidSource (now image) (listOf all) (now masks) (now places) ours ⌝ }
     ensures { λ b. ⌜ b ≡ stepsBound (now (image .entry)) (listOf all) ours (now (words .entry)) ⌝ }
 {
     let mut copy = copy_of(image);
@@ -158,7 +158,7 @@ pub enum Premises {
 
 // The premises on the source.
 fn source_premises(image: &[u8], all: Channels, places: &[u16; PLACES], ours: usize) -> Premises
-    requires { ⌜ PlacesSource (now image) (listOf all) (now places) ours ⌝ }
+    requires { ⌜ AcceptedPlacesSource (now image) (listOf all) (now places) ours ⌝ }
     ensures { λ p. ⌜ Decides (sourcePremises (now (image .entry)) (listOf all) ours) p ⌝ }
 {
     if !is_pending(image, all, places, ours) {
@@ -175,7 +175,7 @@ fn source_premises(image: &[u8], all: Channels, places: &[u16; PLACES], ours: us
 
 // The premises on the start: on the image and the list, then on the source.
 pub fn start_premises(image: &[u8], all: Channels, places: &[u16; PLACES], source: u32) -> Premises
-    requires { ⌜ PlacesSource (now image) (listOf all) (now places) source ⌝ }
+    requires { ⌜ AcceptedPlacesSource (now image) (listOf all) (now places) source ⌝ }
     ensures { λ p. ⌜ Decides (startPremises (now (image .entry)) (listOf all) source) p ⌝ }
 {
     let cicr = image[CICR];
@@ -203,7 +203,7 @@ pub fn bound_accepted(
     source: u32,
     words: &[u64],
 ) -> Bounded
-    requires { ⌜ LaidSource (now image) (listOf all) (now masks) (now places) source ⌝ }
+    requires { ⌜ AcceptedLaidSource (now image) (listOf all) (now masks) (now places) source ⌝ }
     ensures { λ b. ⌜ b ≡ wordsBound (now (image .entry)) (listOf all) source (now (words .entry)) ⌝ }
 {
     match start_premises(image, all, places, source) {

@@ -81,9 +81,9 @@ abbrev pub AcceptedLaid : Image → List Channel → List ℕ → List ℕ → T
 AcceptedLaid m cs masks places = (length m ≡ imageLength) × (listOk cs ≡ true) × LaidMasks cs masks × LaidPlaces cs places
 
 -- and a source that is there
-abbrev pub PlacesSource : Image → List Channel → List ℕ → ℕ → Type 0
-PlacesSource m cs places source = (length m ≡ imageLength) × (listOk cs ≡ true) × LaidPlaces cs places × (source < sources cs)
+abbrev pub AcceptedPlacesSource : Image → List Channel → List ℕ → ℕ → Type 0
+AcceptedPlacesSource m cs places source = (length m ≡ imageLength) × (listOk cs ≡ true) × LaidPlaces cs places × (source < sources cs)
 
-abbrev pub LaidSource : Image → List Channel → List ℕ → List ℕ → ℕ → Type 0
-LaidSource m cs masks places source =
+abbrev pub AcceptedLaidSource : Image → List Channel → List ℕ → List ℕ → ℕ → Type 0
+AcceptedLaidSource m cs masks places source =
     (length m ≡ imageLength) × (listOk cs ≡ true) × LaidMasks cs masks × LaidPlaces cs places × (source < sources cs)

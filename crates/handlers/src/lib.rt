@@ -33,7 +33,7 @@ ghost use Rattle.rules.specs.Channels.{listOk, listOf};
 ghost use Rattle.rules.specs.Sources.{sources};
 ghost use Rattle.rules.specs.Handlers.{isWrite};
 ghost use Rattle.rules.specs.Encodings.{decodeOf};
-ghost use Rattle.channels.specs.Laid.{LaidMasks, LaidPlaces, LaidSource};
+ghost use Rattle.channels.specs.Laid.{LaidMasks, LaidPlaces, AcceptedLaidSource};
 ghost use Rattle.handlers.specs.Handled.{mayStand, fileWrite, brokenCall, stepsBound, wordsBound, Follows};
 
 // What a step that was followed answered, whether the premises hold of it, and how many unmasked sources outranking ours it triggered or made pending by a
@@ -190,7 +190,7 @@ fn followed(
     source: u32,
     words: &[u64],
 ) -> Bounded
-    requires { ⌜ LaidSource (now image) (listOf all) (now masks) (now places) source ⌝ }
+    requires { ⌜ AcceptedLaidSource (now image) (listOf all) (now masks) (now places) source ⌝ }
     ensures { λ b. ⌜ b ≡ stepsBound (now (image .entry)) (listOf all) source (now (words .entry)) ⌝ }
 {
     let ours = source as usize;
@@ -231,7 +231,7 @@ pub fn handler_bound_accepted(
     source: u32,
     words: &[u64],
 ) -> Bounded
-    requires { ⌜ LaidSource (now image) (listOf all) (now masks) (now places) source ⌝ }
+    requires { ⌜ AcceptedLaidSource (now image) (listOf all) (now masks) (now places) source ⌝ }
     ensures { λ b. ⌜ b ≡ wordsBound (now (image .entry)) (listOf all) source (now (words .entry)) ⌝ }
 {
     match start_premises(image, all, places, source) {

@@ -23,7 +23,7 @@ use Rattle.rules.specs.Encodings.{stepsOf, told, toldRun, toldWait, toldBound}
 use Rattle.rules.specs.Promises.{Does, Runs, Waits, Bounds, HandlerBounds}
 use Rattle.rules.proofs.Refusals.{lent-sound}
 use Rattle.rules.proofs.WaitLaws.{accepted-lent, accepted-source}
-use Rattle.channels.specs.Laid.{Laid, AcceptedLaid, LaidSource}
+use Rattle.channels.specs.Laid.{Laid, AcceptedLaid, AcceptedLaidSource}
 use Rattle.runs.proofs.RunSteps.{promised}
 
 -- what is led to by the verdict v is led to by an equal one
@@ -42,7 +42,7 @@ module _ (m : Image) (cs : List Channel) (masks places : List ℕ) {v : Verdict}
       (l .0, l .1, laid e .0, laid e .1)
 
   -- and the source is there
-  pub source-laid : (source : ℕ) → (v ≡ waitVerdict (state m) cs source) × (v ≡ verdict.Accepted → Laid cs masks places) → LaidSource m cs masks places source
+  pub source-laid : (source : ℕ) → (v ≡ waitVerdict (state m) cs source) × (v ≡ verdict.Accepted → Laid cs masks places) → AcceptedLaidSource m cs masks places source
   source-laid source (d, laid) =
       let w = sym d ∙ e in
       let l = lent-sound _ _ (accepted-lent _ _ _ w) in

@@ -1,6 +1,6 @@
 -- A least rank and its first position, gathered one position further; and what the scan passes over by them. Assumes nothing.
 use mathlib.Core.Path.{_≡_, refl, sym, ap, _∙_}
-use mathlib.Core.Bool.{Bool, true, false, false≢true, cond, not, _&&_}
+use mathlib.Core.Bool.{Bool, true, false, false≢true, cond, _&&_}
 use mathlib.Core.Logic.{_≢_, _⊎_, inl, inr, ⊎-elim}
 use mathlib.Core.List.{List}
 use Prim.Native.Nat.{ℕ, _+_, _-_, _*_, _/_, _^_, _≤_, _<_}
@@ -12,15 +12,16 @@ use lib.Count.{trailingZeros}
 use lib.Dec.{T, eqb, ltb}
 use borrow.Author.Count.{below-more}
 use borrow.Author.Tests.{eq-eqb, ne-eqb, eqb-true, lt-ltb, le-ltb, ltb-true, ltb-false}
-use Rattle.bits.specs.Bits.{digit, bit, putBit}
+use Rattle.bits.specs.Bits.{bit, putBit}
 use Rattle.bits.proofs.BitLaws.{bit-zero, bit-same, bit-other}
-use Rattle.bits.proofs.Tests.{passes, passes₂, fails, holds}
+use Rattle.bits.proofs.Tests.{passes, holds}
 use Rattle.rules.specs.declared.Winner.the-variants as winner
 use Rattle.rules.specs.Image.{Image, at, EIPLR}
 use Rattle.rules.specs.Channels.{mostRecords}
 use Rattle.rules.specs.Sources.{externalLevel}
 use Rattle.rules.specs.Requests.{wonBy, first}
-use Rattle.rules.proofs.Bools.{true-or, and-l, and-r, not-both}
+use Rattle.rules.proofs.RestoredLaws.{trailing-clear, trailing-set}
+use Rattle.rules.proofs.Bools.{true-or, not-both}
 use Rattle.requests.specs.declared.Limits.{Limits}
 use Rattle.requests.specs.Ranks.{noRank, interruptRank, externalRank, positionLimit, requesting, rankAt, Gathered, mayRequest, Lowest, IsFront, found, foundOfKind, foundAtLevel, scanned}
 use Rattle.requests.proofs.FirstLaws.{first-nobody}
@@ -89,25 +90,13 @@ front-idle limits m places n gathered z e s h =
 -- ---- the lowest bit that is 1
 
 pub trailing-lowest : (b : ℕ) → 0 < b → b < 256 → Lowest b (trailingZeros 32 b)
-unfolding trailingZeros bit digit
+unfolding trailingZeros
 trailing-lowest b z h =
-    record {
-      byte = ltb-true (trailingZeros 32 b) 8 (and-l low one (holds (low && one) test));
-      one = and-r low one (holds (low && one) test);
-      clear = λ j l. clear j (omega (arith, ltb-true (trailingZeros 32 b) 8 (and-l low one (holds (low && one) test)))) l;
-    }
+    let low : trailingZeros 32 b < 8 = ltb-true (trailingZeros 32 b) 8 (holds (ltb (trailingZeros 32 b) 8) test) in
+    record { byte = low; one = trailing-set 32 b (omega (arith, low)); clear = trailing-clear 32 b }
   where
-    low : Bool
-    low = ltb (trailingZeros 32 b) 8
-
-    one : Bool
-    one = bit (trailingZeros 32 b) b
-
-    test : T (low && one)
-    test = rw (ne-eqb b 0 (λ e. omega arith)) at (passes 256 (λ b. cond (eqb b 0) true (ltb (trailingZeros 32 b) 8 && bit (trailingZeros 32 b) b)) tt b h)
-
-    clear : (j : ℕ) → j < 8 → j < trailingZeros 32 b → bit j b ≡ false
-    clear j g l = fails (bit j b) (rw (lt-ltb j (trailingZeros 32 b) l) at (passes₂ 8 256 (λ j b. cond (ltb j (trailingZeros 32 b)) (not (bit j b)) true) tt j b g h))
+    test : T (ltb (trailingZeros 32 b) 8)
+    test = rw (ne-eqb b 0 (λ e. omega arith)) at (passes 256 (λ b. cond (eqb b 0) true (ltb (trailingZeros 32 b) 8)) tt b h)
 
 -- ---- the external channels, those that request one after another from the lowest
 

@@ -74,6 +74,13 @@ smallest-trailing (suc k) n =
     let lowest : n / 2 ^ 0 % 2 ≡ n % 2 = omega arith in
     rw (rest, lowest) (digit-under (n % 2) (trailingZeros k (n / 2)) (omega arith))
 
+-- so bits below that count are 0, and where it is below the width the bit there is 1
+pub trailing-clear : (k n y : ℕ) → y < trailingZeros k n → bit y n ≡ false
+trailing-clear k n y h = smallest-least k (λ x. bit x n) y (omega (arith, smallest-trailing k n))
+
+pub trailing-set : (k n : ℕ) → trailingZeros k n < k → bit (trailingZeros k n) n ≡ true
+trailing-set k n h = rw (smallest-trailing k n) at (smallest-holds k (λ x. bit x n) (omega (arith, smallest-trailing k n)))
+
 -- ---- the restored level
 
 module _ (m : Image) where

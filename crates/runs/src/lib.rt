@@ -17,7 +17,7 @@ ghost use Rattle.rules.specs.Outcomes.{state, outcome};
 ghost use Rattle.rules.specs.Steps.{actOf};
 ghost use Rattle.rules.specs.Encodings.{decodeOf};
 ghost use Rattle.rules.specs.Promises.{Runs, Waits};
-ghost use Rattle.channels.specs.Laid.{AcceptedLaid, LaidSource};
+ghost use Rattle.channels.specs.Laid.{AcceptedLaid, AcceptedLaidSource};
 ghost use Rattle.runs.specs.Stops.{stopOf};
 
 // Where a list of steps stopped: how many were done, and the last answer, which is a refusal where that stopped it.
@@ -105,7 +105,7 @@ pub fn wait_accepted(
     source: u32,
     words: &[u64],
 ) -> Waited
-    requires { ⌜ LaidSource (now image) (listOf all) (now masks) (now places) source ⌝ }
+    requires { ⌜ AcceptedLaidSource (now image) (listOf all) (now masks) (now places) source ⌝ }
     ensures { λ w. ⌜ Waits (now (image .entry)) (listOf all) source (now (words .entry)) w (now (image .exit)) ⌝ }
 {
     let mut done: usize = 0;

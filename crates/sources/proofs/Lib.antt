@@ -1,1 +1,2 @@
 pub mod SourceReads
+pub mod SourceLoops

@@ -21,7 +21,7 @@ ghost use Rattle.rules.specs.Sources.{sources, pending, unmasked, dmaEnabled, l
 ghost use Rattle.rules.specs.Runs.{oneIf};
 ghost use Rattle.rules.specs.Demand3.{outranks, rival};
 ghost use Rattle.rules.specs.Bounds.{anyDma};
-ghost use Rattle.channels.specs.Laid.{LaidPlaces, AcceptedPlaces, PlacesSource};
+ghost use Rattle.channels.specs.Laid.{LaidPlaces, AcceptedPlaces, AcceptedPlacesSource};
 ghost use Rattle.sources.specs.Flags.{sourceBit, pendingRival, pendingRivals};
 
 // How many sources there are.
@@ -60,7 +60,7 @@ fn source_bit(
 
 // Whether a source is pending: its EIPR or IP bit is 1.
 pub fn is_pending(image: &[u8], all: Channels, places: &[u16; PLACES], source: usize) -> bool
-    requires { ⌜ PlacesSource (now image) (listOf all) (now places) source ⌝ }
+    requires { ⌜ AcceptedPlacesSource (now image) (listOf all) (now places) source ⌝ }
     ensures { λ p. ⌜ p ≡ pending (now (image .entry)) (listOf all) source ⌝ }
 {
     source_bit(image, all, places, source, EIPR, IP)
@@ -68,7 +68,7 @@ pub fn is_pending(image: &[u8], all: Channels, places: &[u16; PLACES], source: u
 
 // Whether it is unmasked: its EIMR bit, or IM, is 1.
 pub fn is_unmasked(image: &[u8], all: Channels, places: &[u16; PLACES], source: usize) -> bool
-    requires { ⌜ PlacesSource (now image) (listOf all) (now places) source ⌝ }
+    requires { ⌜ AcceptedPlacesSource (now image) (listOf all) (now places) source ⌝ }
     ensures { λ u. ⌜ u ≡ unmasked (now (image .entry)) (listOf all) source ⌝ }
 {
     source_bit(image, all, places, source, EIMR, IM)
@@ -76,7 +76,7 @@ pub fn is_unmasked(image: &[u8], all: Channels, places: &[u16; PLACES], source: 
 
 // Whether it has DMA enabled: DM is 1; an external channel has none.
 pub fn is_dma_enabled(image: &[u8], all: Channels, places: &[u16; PLACES], source: usize) -> bool
-    requires { ⌜ PlacesSource (now image) (listOf all) (now places) source ⌝ }
+    requires { ⌜ AcceptedPlacesSource (now image) (listOf all) (now places) source ⌝ }
     ensures { λ d. ⌜ d ≡ dmaEnabled (now (image .entry)) (listOf all) source ⌝ }
 {
     if source < EXTERNALS {
@@ -87,7 +87,7 @@ pub fn is_dma_enabled(image: &[u8], all: Channels, places: &[u16; PLACES], sourc
 
 // Its level, pending or not: an external channel's by EIPLR, a record's PRL.
 pub fn level_of(image: &[u8], all: Channels, places: &[u16; PLACES], source: usize) -> u8
-    requires { ⌜ PlacesSource (now image) (listOf all) (now places) source ⌝ }
+    requires { ⌜ AcceptedPlacesSource (now image) (listOf all) (now places) source ⌝ }
     ensures { λ l. ⌜ l ≡ level (now (image .entry)) (listOf all) source ⌝ }
 {
     if source < EXTERNALS {
@@ -135,7 +135,7 @@ fn pending_rival(
 
 // H of demand 3: how many unmasked sources outranking ours are pending.
 pub fn pending_rivals(image: &[u8], all: Channels, places: &[u16; PLACES], ours: usize) -> usize
-    requires { ⌜ PlacesSource (now image) (listOf all) (now places) ours ⌝ }
+    requires { ⌜ AcceptedPlacesSource (now image) (listOf all) (now places) ours ⌝ }
     ensures { λ n. ⌜ n ≡ pendingRivals (now (image .entry)) (listOf all) ours ⌝ }
 {
     let end = source_count(all, places);

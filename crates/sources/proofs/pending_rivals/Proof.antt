@@ -1,48 +1,40 @@
--- The invariant: n counts the pending rivals below k, so it is at most k.
-use mathlib.Core.Path.{_≡_, refl}
+-- The invariant: n counts the pending rivals below k.
 use mathlib.Core.Bool.{_&&_}
-use Prim.Native.Nat.{_-_, _≤_}
+use Prim.Native.Nat.{_-_}
 use native.Mathlib.Omega.{arith}
 use borrow.Author.Needs.{needs}
 use Rattle.rules.specs.Channels.{listOf}
 use Rattle.rules.specs.Sources.{sources, pending}
-use Rattle.rules.specs.Demand3.{rival, countBelow, pendingOf}
-use Rattle.rules.proofs.Counting.{count-more}
+use Rattle.rules.specs.Demand3.{rival, pendingOf}
+use Rattle.sources.proofs.SourceLoops.{SoMany, none-counted, counted-there, counted-next, counted-over}
 use Rattle.sources.proofs.pending_rivals.Statement.{statement}
 use Rattle.sources.proofs.pending_rivals.Tie as tie
 
 abbrev Inv-loop : tie.InvT-loop
 Inv-loop image all places ours end n₀ k₀ n k =
-    (k ≤ end) × (end ≡ sources (listOf all)) × (n ≤ k) × (n ≡ countBelow k (λ j. pending image (listOf all) j && rival image (listOf all) ours j))
+    SoMany (λ j. pending image (listOf all) j && rival image (listOf all) ours j) (sources (listOf all)) end n k
 
 abbrev μ-loop : tie.MeasureT-loop
 μ-loop image all places ours end n₀ k₀ n k = end - k
 
 loop-holds : tie.Need-loop-holds Inv-loop μ-loop
-unfolding countBelow
-loop-holds c = (omega arith, c .source-count .ensures, omega arith, refl)
+loop-holds c = none-counted _ _ _ (c .source-count .ensures)
 
 pending-rival-requires : tie.Need-pending-rival-requires Inv-loop μ-loop
 pending-rival-requires c κs =
     let l = c .before in
     let s = l .before .before .before in
-    (s .pre .0, s .pre .1, s .pre .2, s .pre .3, omega (arith, c .loop-test .taken, l .loop .inv .1))
-
-add-n : tie.Need-add-n Inv-loop μ-loop
-add-n c = omega (arith, count-more _ _ _ _ (c .before .before .loop .inv .3) (c .pending-rival .ensures) .0)
+    (s .pre .0, s .pre .1, s .pre .2, s .pre .3, counted-there _ _ _ _ _ (l .loop .inv) (c .loop-test .taken))
 
 loop-again : tie.Need-loop-again Inv-loop μ-loop
-loop-again c =
-    let i = c .before .before .loop .inv in
-    let t = count-more _ _ _ _ (i .3) (c .pending-rival .ensures) in
-    (omega arith, i .1, omega (arith, t .0), t .1)
+loop-again c = counted-next _ _ _ _ _ (c .before .before .loop .inv) _ (c .pending-rival .ensures) (c .before .loop-test .taken)
+
+add-n : tie.Need-add-n Inv-loop μ-loop
+add-n c = omega (arith, loop-again c .few)
 
 returns : tie.Need-returns Inv-loop μ-loop
 unfolding pendingOf
-returns c =
-    let l = c .before in
-    let e : l .loop .k ≡ sources (listOf (l .before .before .before .args .all)) = omega (arith, l .loop .inv .1) in
-    rw e at (l .loop .inv .3)
+returns c = counted-over _ _ _ _ _ (c .before .loop .inv) (c .loop-test .left)
 
 pub pending-rivals-spec : {M : Type 1} → statement M
 pending-rivals-spec {M} =
