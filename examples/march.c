@@ -43,11 +43,11 @@ int main(void)
         st9_return(),
         st9_arbitrate()
     };
-    say("up to the fan's edge", st9_run(image, sizeof image, NULL, 0, edges, 4));
+    say("up to the fan's edge", st9_run(image, sizeof image, NULL, 0, NULL, 0, edges, 4));
 
     /* A step's index counts from the first word lent: step 0 is the handler's write. */
     say("bound of the fan", st9_handler_bound(image, sizeof image, NULL, 0, ST9_INTC0, handler, 3));
-    say("the write", st9_step(image, sizeof image, NULL, 0, handler[0]));
-    say("the rest", st9_run(image, sizeof image, NULL, 0, handler + 1, 2));
+    say("the write", st9_step(image, sizeof image, NULL, 0, NULL, 0, handler[0]));
+    say("the rest", st9_run(image, sizeof image, NULL, 0, NULL, 0, handler + 1, 2));
     return 0;
 }

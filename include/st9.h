@@ -7,20 +7,24 @@
  *     char text[ST9_TEXT_SIZE];
  *     image[ST9_CICR] = ST9_IEN | ST9_CPL;             // interrupts enabled, current level 7, the lowest
  *     image[ST9_PAGED(0, ST9_EIMR)] = 1 << ST9_INTC0;  // the fan is unmasked
- *     st9_answer_text(st9_step(image, sizeof image, NULL, 0, st9_pin_edge(ST9_INTC0, ST9_FALLING)), text, sizeof text);
+ *     const uint64_t edge = st9_pin_edge(ST9_INTC0, ST9_FALLING);
+ *     st9_answer_text(st9_step(image, sizeof image, NULL, 0, NULL, 0, edge), text, sizeof text);
  *     puts(text);                                      // raised
- *     st9_answer_text(st9_step(image, sizeof image, NULL, 0, st9_arbitrate()), text, sizeof text);
+ *     st9_answer_text(st9_step(image, sizeof image, NULL, 0, NULL, 0, st9_arbitrate()), text, sizeof text);
  *     puts(text);                                      // acknowledged INTC0, level 0, vector 08h
  *
- * Document 01 is the scope paper; docs/PROMISES.md restates its rules, one a row. Demand 3 is the bound on waiting: an
- * unmasked pending source above the current level is acknowledged by arbitration H + E + 1 at the latest, if the list
- * has so many, under the premises that enum st9_kind has, with what H and E count.
- * Every image, channel list, number and step word gets an answer; a bad one is refused with the number of document 01,
- * and then every byte stays as it was.
- * A channel list passes as (const uint8_t *)list, sizeof list (st9_channel); with no channel as NULL, 0.
- * What the caller sees to: each pointer has as many readable elements as the length beside it says (a text and the
- * image of st9_step, st9_run and st9_wait writable too), the words are aligned, the image overlaps neither the list nor
- * the words, and nobody else writes any of them during the call. A pointer may be null where its length is 0.
+ * Document 01 is the scope paper, here with its later change that lends a memory; docs/PROMISES.md restates its rules,
+ * one a row. Demand 3 is the bound on waiting: an unmasked pending source above the current level is acknowledged by
+ * arbitration H + E + 1 at the latest, if the list has so many, under the premises that enum st9_kind has, with what H
+ * and E count.
+ * Every image, channel list, memory, number and step word gets an answer; a bad one is refused with the number of
+ * document 01, and then every byte stays as it was.
+ * A channel list passes as (const uint8_t *)list, sizeof list (st9_channel); with no channel as NULL, 0. The memory
+ * that DMA moves bytes into and out of passes as its bytes and their number, at most ST9_MOST_MEMORY; none as NULL, 0.
+ * What the caller sees to: each pointer has as many readable elements as the length beside it says (a text, and image
+ * and memory of st9_step, st9_run and st9_wait, writable too), the words are aligned, image and memory overlap neither
+ * each other nor the list nor the words, and nobody else writes any of them during the call. A pointer may be null
+ * where its length is 0.
  */
 #ifndef ST9_H
 #define ST9_H
@@ -44,13 +48,13 @@ typedef struct st9_answer {
 
 /* One step. A refused one changes nothing. */
 st9_answer st9_step(uint8_t *image, size_t image_length, const uint8_t *channels, size_t channels_length,
-                    uint64_t word);
-/* The steps one after another, up to the first that is refused; the image is left as the steps before it left it. */
+                    uint8_t *memory, size_t memory_length, uint64_t word);
+/* The steps one after another, up to the first that is refused; image and memory are as those before it left them. */
 st9_answer st9_run(uint8_t *image, size_t image_length, const uint8_t *channels, size_t channels_length,
-                   const uint64_t *words, size_t word_count);
+                   uint8_t *memory, size_t memory_length, const uint64_t *words, size_t word_count);
 /* The wait report: the steps up to the acknowledgement of a source by an interrupt, with the arbitrations counted. */
 st9_answer st9_wait(uint8_t *image, size_t image_length, const uint8_t *channels, size_t channels_length,
-                    uint32_t source, const uint64_t *words, size_t word_count);
+                    uint8_t *memory, size_t memory_length, uint32_t source, const uint64_t *words, size_t word_count);
 /* Demand 3's bound for a source over triggers, arbitrations and returns, or why there is none: more at st9_kind. */
 st9_answer st9_bound(const uint8_t *image, size_t image_length, const uint8_t *channels, size_t channels_length,
                      uint32_t source, const uint64_t *words, size_t word_count);
@@ -94,6 +98,9 @@ const char *st9_source_name(uint64_t source);    /* `INTB0`, `channel 0`, or `no
 
 /* The bytes of a record. */
 #define ST9_CHANNEL_BYTES 7
+
+/* The most bytes of a memory: with so many every 16-bit address is one of its bytes. */
+#define ST9_MOST_MEMORY 65536
 
 /*
  * The byte of an image that register r (240 to 255) of page p (0 to 63) has. A register below 240 has the byte of its
@@ -169,34 +176,46 @@ enum st9_edge {
 
 /* The direction of a record's transfers. */
 enum st9_direction {
-    ST9_TO_REGISTER_FILE = 0,  /* from the data register into the register file */
+    ST9_TO_REGISTER_FILE = 0,  /* from the data register into the register file or the memory */
     ST9_TO_PERIPHERAL = 1      /* the reverse */
 };
 
 /*
  * A record of the channel list: a page of 1 to 63, five register numbers of 240 to 255 there, and a direction. A list
  * passes as its bytes, seven a record, and their number: (const uint8_t *)list, sizeof list.
+ *
+ * A transfer moves one byte between the data register and the register file or the memory: bit 0 of DCPR says which.
+ * It then adds 1 to the address and takes 1 from the counter; a counter of 0 means 256 bytes, of the memory 65,536.
+ * It clears IP, so that every byte needs its request. The last byte of a block clears DM too, and leaves IP set if IM
+ * is 1.
+ * DCPR bit 0 = 1, register file: DCPR with bit 0 cleared names a pair of registers, the 8-bit address, then the 8-bit
+ * counter. DAPR is not looked at.
+ * DCPR bit 0 = 0, memory: DCPR names the pair of the 16-bit counter, DAPR with bit 0 cleared that of the 16-bit
+ * address, high byte first. Both wrap at 16 bits; where both pointers name one pair, the counter stands there
+ * afterwards. (On the part bit 0 of DAPR chooses a segment; here both mean the memory that is lent.)
  */
 typedef struct st9_channel {
     uint8_t page;
     uint8_t idcr;       /* interrupt and DMA control */
     uint8_t ivr;        /* interrupt vector, with bit 0 cleared */
-    uint8_t dcpr;       /* DMA counter pointer */
-    uint8_t dapr;       /* DMA address pointer */
+    uint8_t dcpr;       /* DMA counter pointer; its bit 0 is 1 for the register file, 0 for the memory */
+    uint8_t dapr;       /* DMA address pointer, of the memory's address */
     uint8_t data;       /* the peripheral's data register */
     uint8_t direction;  /* enum st9_direction */
 } st9_channel;
 
-/* The refusals of document 01, in the field `refusal` of an answer. */
+/* The refusals of document 01 and of its later change that lends a memory, in the field `refusal` of an answer. */
 enum st9_refusal {
-    ST9_ACCEPTED = 0,         /* nothing was refused */
-    ST9_BAD_LENGTH = 1,       /* the image's length is not 1,265 */
-    ST9_BAD_LIST = 2,         /* the channel list breaks a rule, or its bytes are no whole number of records */
-    ST9_BAD_REGISTER = 3,     /* a register that is not modelled or over 255; a viewed page over 63 */
-    ST9_BAD_NUMBER = 4,       /* a pin over 7, a direction over 1, a record or a source that isn't there */
-    ST9_MEMORY_TRANSFER = 5,  /* the DMA winner has DCPR bit 0 = 0 (memory) */
-    ST9_BAD_POINTER = 6,      /* the DMA winner has a pointer pair or an address over 223 */
-    ST9_UNKNOWN_KIND = 7      /* a kind of step or of trigger that is unknown */
+    ST9_ACCEPTED = 0,      /* nothing was refused */
+    ST9_BAD_LENGTH = 1,    /* the image's length is not 1,265 */
+    ST9_BAD_LIST = 2,      /* the channel list breaks a rule, or its bytes are no whole number of records */
+    ST9_BAD_REGISTER = 3,  /* a register that is not modelled or over 255; a viewed page over 63 */
+    ST9_BAD_NUMBER = 4,    /* a pin over 7, a direction over 1, a record or a source that isn't there */
+    ST9_BAD_ADDRESS = 5,   /* the DMA winner has a memory address that is not below the memory's length */
+    ST9_BAD_POINTER = 6,   /* the DMA winner has a pointer pair or an address over 223 (register file), or a pointer */
+                           /* over 222 (memory), which comes before 5 */
+    ST9_UNKNOWN_KIND = 7,  /* a kind of step or of trigger that is unknown */
+    ST9_BAD_MEMORY = 8     /* the memory is over 65,536 bytes, whatever the step; checked right after 2 */
 };
 
 /* What a trigger did to a pending bit. */

@@ -20,9 +20,10 @@ static const char *const refusal_names[] = {
     "channel list breaks a rule",
     "register read or written not modelled or over 255; viewed page over 63",
     "pin over 7, direction over 1, record or source number that isn't there",
-    "the DMA winner has DCPR bit 0 = 0 (memory)",
-    "the DMA winner has n or a over 223",
-    "step or trigger kind unknown"
+    "the DMA winner has a memory address not below the memory's length",
+    "the DMA winner has n or a over 223, or a pointer over 222 (memory)",
+    "step or trigger kind unknown",
+    "the memory is over 65,536 bytes"
 };
 
 static const char *const source_names[] = {
@@ -254,7 +255,7 @@ static void put_done(struct writer *to, st9_answer answer)
 /* A wait is told from a run by the arbitrations before the refused step, where it has made one. */
 static void put_refused(struct writer *to, st9_answer answer)
 {
-    if (!known(to, "refused with", answer.refusal, ST9_BAD_LENGTH, ST9_UNKNOWN_KIND))
+    if (!known(to, "refused with", answer.refusal, ST9_BAD_LENGTH, ST9_BAD_MEMORY))
         return;
     put(to, "refused with ");
     put_number(to, answer.refusal);

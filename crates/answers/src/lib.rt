@@ -21,9 +21,10 @@ fn refusal_number(r: Refusal) -> u64
         Refusal::List => 2,
         Refusal::Register => 3,
         Refusal::Number => 4,
-        Refusal::Memory => 5,
+        Refusal::Address => 5,
         Refusal::Pointer => 6,
         Refusal::Kind => 7,
+        Refusal::Memory => 8,
     }
 }
 

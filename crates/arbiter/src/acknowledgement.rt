@@ -1,8 +1,8 @@
 // What an interrupt that has won gets.
-use crate::fields::put_at;
 use crate::nesting::nest;
 use channels::IVRS;
 use channels::PLACES;
+use fields::put_at;
 use rules::Answer;
 use rules::CICR;
 use rules::Channels;

@@ -1,8 +1,6 @@
 // Triggers, arbitration and the return.
 mod acknowledgement;
-mod fields;
 mod nesting;
-mod transfer;
 mod triggers;
 
 use acknowledgement::acknowledge;
@@ -23,7 +21,7 @@ use rules::TLIP;
 use rules::TLNM;
 use rules::Trigger;
 use rules::Winner;
-use transfer::transfer;
+use transfers::transfer;
 use triggers::channel_request;
 use triggers::nmi_edge;
 use triggers::pin_edge;
@@ -32,7 +30,7 @@ ghost use mathlib.Core.Path.{_≡_};
 ghost use lib.ListN.{length};
 ghost use Rattle.rules.specs.Image.{imageLength, inService};
 ghost use Rattle.rules.specs.Channels.{listOf};
-ghost use Rattle.rules.specs.Outcomes.{outcome};
+ghost use Rattle.rules.specs.Outcomes.{state, outcome};
 ghost use Rattle.rules.specs.Triggers.{triggerOf};
 ghost use Rattle.rules.specs.Arbitration.{topLevel, enteredTop, arbitrateOf};
 ghost use Rattle.rules.specs.Return.{returnOf};
@@ -82,9 +80,14 @@ fn enter_top(image: &mut [u8])
 }
 
 // An arbitration: nothing while the mark is set; the top level; then what the winner gets.
-pub fn arbitrate(image: &mut [u8], all: Channels, places: &[u16; PLACES]) -> Answer
+pub fn arbitrate(
+    image: &mut [u8],
+    memory: &mut [u8],
+    all: Channels,
+    places: &[u16; PLACES],
+) -> Answer
     requires { ⌜ AcceptedPlaces (now image) (listOf all) (now places) ⌝ }
-    ensures { λ a. ⌜ outcome a (now (image .exit)) ≡ arbitrateOf (now (image .entry)) (listOf all) ⌝ }
+    ensures { λ a. ⌜ outcome a (state (now (image .exit)) (now (memory .exit))) ≡ arbitrateOf (state (now (image .entry)) (now (memory .entry))) (listOf all) ⌝ }
 {
     if in_service(image) {
         return Answer::Nothing;
@@ -95,7 +98,7 @@ pub fn arbitrate(image: &mut [u8], all: Channels, places: &[u16; PLACES]) -> Ans
     }
     match winner_of(image, all, places) {
         Winner::Nobody => Answer::Nothing,
-        Winner::Dma { source } => transfer(image, all, places, source),
+        Winner::Dma { source } => transfer(image, memory, all, places, source),
         Winner::Interrupt { source, level } => acknowledge(image, all, places, source, level),
     }
 }

@@ -1,7 +1,7 @@
 // The levels of nested mode: pushed at an acknowledgement, popped at a return.
-use crate::fields::put_at;
-use crate::fields::put_cpl;
 use bits::has_bit;
+use fields::put_at;
+use fields::put_cpl;
 use rules::CICR;
 use rules::IAM;
 use rules::NICR;

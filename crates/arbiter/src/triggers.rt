@@ -1,8 +1,8 @@
 // What each kind of trigger selects, sets and answers.
-use crate::fields::put_at;
 use bits::has_bit;
 use channels::COUNT;
 use channels::PLACES;
+use fields::put_at;
 use rules::Answer;
 use rules::CICR;
 use rules::Channels;

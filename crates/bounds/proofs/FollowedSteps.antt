@@ -19,7 +19,7 @@ use Rattle.rules.specs.declared.Verdict.the-variants as verdict
 use Rattle.rules.specs.declared.Bounded.the-variants as bounded
 use Rattle.rules.specs.Image.{Image, bitOf, has, EITR, IAOS, IEN}
 use Rattle.rules.specs.Channels.{listOk}
-use Rattle.rules.specs.Outcomes.{State, state, Outcome, outcome, isRefused}
+use Rattle.rules.specs.Outcomes.{State, alone, Outcome, outcome, isRefused}
 use Rattle.rules.specs.Sources.{sources, pending}
 use Rattle.rules.specs.Triggers.{edge, triggerVerdict, selects, selectsTop, effectOn, sourceEffect, fired, triggerOf}
 use Rattle.rules.specs.Steps.{actOf}
@@ -76,20 +76,20 @@ module _ (m : Image) (cs : List Channel) (ok : listOk cs ≡ true) (among : ℕ 
       verdict-elim (λ (o : Outcome Answer Image). (not (isRefused (o .answer)) && within among (selects m t)) ≡ tells (step.Trigger t) (o .answer)) (triggerVerdict cs t)
       (λ e. done t (selects m t) e refl) (λ r e. refl)
 
-  triggers-act : (x : Step) → let o = actOf (state m) cs x in triggers among (eventOf (state m) x (outcome (o .answer) (o .left))) ≡ tells x (o .answer)
+  triggers-act : (x : Step) → let o = actOf (alone m) cs x in triggers among (eventOf (alone m) x (outcome (o .answer) (o .left))) ≡ tells x (o .answer)
   unfolding actOf
-  triggers-act (step.Read r) = no-target (actOf (state m) cs (step.Read r) .answer)
-  triggers-act (step.Write r v) = no-target (actOf (state m) cs (step.Write r v) .answer)
+  triggers-act (step.Read r) = no-target (actOf (alone m) cs (step.Read r) .answer)
+  triggers-act (step.Write r v) = no-target (actOf (alone m) cs (step.Write r v) .answer)
   triggers-act (step.Trigger t) = trigger-tells t
-  triggers-act step.Arbitrate = no-target (actOf (state m) cs step.Arbitrate .answer)
-  triggers-act step.Return = no-target (actOf (state m) cs step.Return .answer)
-  triggers-act step.Reset = no-target (actOf (state m) cs step.Reset .answer)
-  triggers-act step.Unknown = no-target (actOf (state m) cs step.Unknown .answer)
+  triggers-act step.Arbitrate = no-target (actOf (alone m) cs step.Arbitrate .answer)
+  triggers-act step.Return = no-target (actOf (alone m) cs step.Return .answer)
+  triggers-act step.Reset = no-target (actOf (alone m) cs step.Reset .answer)
+  triggers-act step.Unknown = no-target (actOf (alone m) cs step.Unknown .answer)
 
   -- of a step that was done
-  pub triggers-told : (x : Step) (a : Answer) (t : State) → outcome a t ≡ actOf (state m) cs x → triggers among (eventOf (state m) x (outcome a t)) ≡ tells x a
+  pub triggers-told : (x : Step) (a : Answer) (t : State) → outcome a t ≡ actOf (alone m) cs x → triggers among (eventOf (alone m) x (outcome a t)) ≡ tells x a
   triggers-told x a t e =
-      subst (λ (o : Outcome Answer State). triggers among (eventOf (state m) x o) ≡ tells x (o .answer)) (sym e) (triggers-act x)
+      subst (λ (o : Outcome Answer State). triggers among (eventOf (alone m) x o) ≡ tells x (o .answer)) (sym e) (triggers-act x)
 
 -- ---- the loop
 

@@ -22,7 +22,7 @@ use Rattle.bounds.specs.declared.Premises.{Premises}
 use Rattle.bounds.specs.declared.Premises.the-variants as premises
 use Rattle.rules.specs.Image.{Image}
 use Rattle.rules.specs.Channels.{mostRecords}
-use Rattle.rules.specs.Outcomes.{state, kindOf}
+use Rattle.rules.specs.Outcomes.{alone, kindOf}
 use Rattle.rules.specs.Sources.{sources}
 use Rattle.rules.specs.Runs.{Event, history, isArbitration}
 use Rattle.rules.specs.Demand3.{rival, H, triggersOf}
@@ -98,11 +98,11 @@ withinOf m cs ours triggers = bounding (H m cs ours) triggers
 
 -- what is answered of the steps of a list of words
 abbrev pub stepsBound : Image → List Channel → ℕ → List ℕ → Bounded
-stepsBound m cs ours words = boundIn m cs ours (history (state m) cs (stepsOf words))
+stepsBound m cs ours words = boundIn m cs ours (history (alone m) cs (stepsOf words))
 
 -- and with the premises on the start
 abbrev pub wordsBound : Image → List Channel → ℕ → List ℕ → Bounded
-wordsBound m cs ours words = acceptedBound (state m) cs ours (stepsOf words)
+wordsBound m cs ours words = acceptedBound m cs ours (stepsOf words)
 
 -- by the indices of the first step of another kind and of the first arbitration with interrupts disabled, if there are such
 abbrev pub stepsAnswer : Option ℕ → Option ℕ → ℕ → ℕ → Bounded

@@ -1,4 +1,4 @@
-// Demand 3's bound on an image and a list that are accepted, for a source that is there: the premises on the start, then the steps, followed on a copy of the image.
+// Demand 3's bound on an image and a list that are accepted, for a source that is there: the premises on the start, then the steps, followed on a copy of the image, without a memory.
 mod copies;
 mod targets;
 
@@ -21,7 +21,7 @@ use rules::Step;
 use rules::TLI;
 use rules::TLNM;
 use rules::Verdict;
-use runs::perform;
+use runs::perform_alone;
 use sources::any_dma;
 use sources::is_pending;
 use sources::is_rival;
@@ -136,7 +136,7 @@ fn followed(
         let word = words[done];
         let step = decode(word);
         let enabled = has_bit(copy[CICR], IEN);
-        let a = perform(&mut copy, all, masks, places, word);
+        let a = perform_alone(&mut copy, all, masks, places, word);
         if other_step(step, a) {
             return Bounded::OtherStep { index: done };
         }

@@ -9,8 +9,9 @@ use lib.ListN.{length, getD, set, replicate}
 use Rattle.rules.specs.declared.Channel.{Channel}
 use Rattle.rules.specs.declared.Place.{Place}
 use Rattle.rules.specs.declared.Place.the-variants.{At, Unmodelled}
-use Rattle.rules.specs.Image.{Image, imageLength, pageByte, MARK}
+use Rattle.rules.specs.Image.{Image, imageLength, Fits, pageByte, MARK}
 use Rattle.rules.specs.Channels.{mostRecords, recordAt, idcrByte, ivrByte, dcprByte, daprByte, dataByte, listOk}
+use Rattle.rules.specs.Outcomes.{State}
 use Rattle.rules.specs.Sources.{sources}
 use Rattle.rules.specs.Registers.{recordsPlace}
 
@@ -87,3 +88,11 @@ AcceptedPlacesSource m cs places source = (length m ≡ imageLength) × (listOk 
 abbrev pub AcceptedLaidSource : Image → List Channel → List ℕ → List ℕ → ℕ → Type 0
 AcceptedLaidSource m cs masks places source =
     (length m ≡ imageLength) × (listOk cs ≡ true) × LaidMasks cs masks × LaidPlaces cs places × (source < sources cs)
+
+-- and what those of lists of steps ask: a memory of 65,536 bytes at most, too
+abbrev pub LentLaid : State → List Channel → List ℕ → List ℕ → Type 0
+LentLaid s cs masks places = (length (s .image) ≡ imageLength) × (listOk cs ≡ true) × LaidMasks cs masks × LaidPlaces cs places × Fits (s .memory)
+
+abbrev pub LentLaidSource : State → List Channel → List ℕ → List ℕ → ℕ → Type 0
+LentLaidSource s cs masks places source =
+    (length (s .image) ≡ imageLength) × (listOk cs ≡ true) × LaidMasks cs masks × LaidPlaces cs places × Fits (s .memory) × (source < sources cs)

@@ -1,4 +1,4 @@
-// One step on an image and a list that are accepted: a word decoded, the step done, and what is asked of a step and of its answer by those who do many.
+// One step on an image and a list that are accepted, with any memory: a word decoded, the step done, and what is asked of a step and of its answer by those who do many.
 mod words;
 
 use channels::MASKS;
@@ -20,19 +20,20 @@ ghost use Rattle.channels.specs.Laid.{AcceptedLaid};
 // One step.
 pub fn act(
     image: &mut [u8],
+    memory: &mut [u8],
     all: Channels,
     masks: &[u8; MASKS],
     places: &[u16; PLACES],
     step: Step,
 ) -> Answer
     requires { ⌜ AcceptedLaid (now image) (listOf all) (now masks) (now places) ⌝ }
-    ensures { λ a. ⌜ outcome a (state (now (image .exit))) ≡ actOf (state (now (image .entry))) (listOf all) step ⌝ }
+    ensures { λ a. ⌜ outcome a (state (now (image .exit)) (now (memory .exit))) ≡ actOf (state (now (image .entry)) (now (memory .entry))) (listOf all) step ⌝ }
 {
     match step {
         Step::Read(register) => registers::read(image, all, masks, register),
         Step::Write(register, value) => registers::write(image, all, masks, register, value),
         Step::Trigger(event) => arbiter::trigger(image, all, places, event),
-        Step::Arbitrate => arbiter::arbitrate(image, all, places),
+        Step::Arbitrate => arbiter::arbitrate(image, memory, all, places),
         Step::Return => arbiter::return_from_interrupt(image),
         Step::Reset => registers::reset(image),
         Step::Unknown => Answer::Refused(Refusal::Kind),

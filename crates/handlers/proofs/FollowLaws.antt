@@ -18,7 +18,7 @@ use Rattle.rules.specs.declared.Bounded.{Bounded}
 use Rattle.rules.specs.declared.Bounded.the-variants as bounded
 use Rattle.rules.specs.Image.{Image, imageLength, has, CICR, IEN}
 use Rattle.rules.specs.Channels.{mostRecords, listOk}
-use Rattle.rules.specs.Outcomes.{State, state, Outcome, outcome, isRefused}
+use Rattle.rules.specs.Outcomes.{State, alone, Outcome, outcome, isRefused}
 use Rattle.rules.specs.Registers.{writeOf}
 use Rattle.rules.specs.Sources.{sources}
 use Rattle.rules.specs.Steps.{actOf}
@@ -75,7 +75,8 @@ module _ (cs : List Channel) (s : ℕ) (m m' : Image) (i : ℕ) where
 
 -- ---- a step that is followed
 
-module _ (start before after : Image) (cs : List Channel) (s : ℕ) (x : Step) (i : ℕ) (a : Answer) (did : outcome a (state after) ≡ actOf (state before) cs x) where
+module _ (start before after : Image) (cs : List Channel) (s : ℕ) (x : Step) (i : ℕ) (a : Answer)
+    (did : outcome a (alone after) ≡ actOf (alone before) cs x) where
   abbrev seen : Premises → ℕ → Seen
   seen b n = record { answer = a; broken = b; more = n }
 
@@ -109,7 +110,7 @@ module _ (start before after : Image) (cs : List Channel) (s : ℕ) (x : Step) (
       no-more true = refl
       no-more false = refl
 
-      go : (x : Step) → fileWrite x ≡ true → outcome a (state after) ≡ actOf (state before) cs x → Follows start before cs s x i (seen premises.Hold 0) after
+      go : (x : Step) → fileWrite x ≡ true → outcome a (alone after) ≡ actOf (alone before) cs x → Follows start before cs s x i (seen premises.Hold 0) after
       go (step.Read r) w e = absurd (false≢true w)
       go (step.Write r v) w e =
           let low = ltb-true r 240 (and-l (ltb r 240) (not (eqb r CICR)) w) in
@@ -136,7 +137,7 @@ module _ (start before after : Image) (cs : List Channel) (s : ℕ) (x : Step) (
       record {
         did = did;
         breaks = p ∙ rw (← e) (go d (isRefused a));
-        counts = rw w (q ∙ ap oneIf (sym (triggers-told before cs ok (rival start cs s) x a (state after) did)) ∙ sym (add-zero _));
+        counts = rw w (q ∙ ap oneIf (sym (triggers-told before cs ok (rival start cs s) x a (alone after) did)) ∙ sym (add-zero _));
       }
     where
       go : (d r : Bool) → cond d (premises.Fail (bounded.InterruptsDisabled i)) (cond r premises.Hold (cond (mayStand x) premises.Hold (premises.Fail (bounded.OtherStep i))))
@@ -154,14 +155,15 @@ follows-few start before after cs s x i f ok q = omega (arith, q .counts, few x 
     among : ℕ → Bool
     among = rival start cs s
 
-    at-most-one : (x : Step) → isWrite x ≡ false → more cs among (eventOf (state before) x (outcome (f .answer) (state after))) ≤ mostRecords
-    at-most-one x w = rw w (omega (arith, one-le (triggers among (eventOf (state before) x (outcome (f .answer) (state after))))))
+    at-most-one : (x : Step) → isWrite x ≡ false → more cs among (eventOf (alone before) x (outcome (f .answer) (alone after))) ≤ mostRecords
+    at-most-one x w = rw w (omega (arith, one-le (triggers among (eventOf (alone before) x (outcome (f .answer) (alone after))))))
 
     written : (r v : ℕ) (refused : Bool) → oneIf (not refused && false) + cond (true && not refused) (raised cs among before (writeOf before cs r v .left)) 0 ≤ mostRecords
     written r v true = omega arith
     written r v false = omega (arith, raised-few before cs ok among r v)
 
-    few : (x : Step) → outcome (f .answer) (state after) ≡ actOf (state before) cs x → more cs among (eventOf (state before) x (outcome (f .answer) (state after))) ≤ mostRecords
+    few : (x : Step) → outcome (f .answer) (alone after) ≡ actOf (alone before) cs x
+        → more cs among (eventOf (alone before) x (outcome (f .answer) (alone after))) ≤ mostRecords
     few (step.Read r) e = at-most-one (step.Read r) refl
     few (step.Write r v) e =
         let same : after ≡ writeOf before cs r v .left = ap (λ (o : Outcome Answer State). o .left .image) e in

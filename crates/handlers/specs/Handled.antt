@@ -14,7 +14,7 @@ use Rattle.rules.specs.declared.Basis.the-variants as basis
 use Rattle.rules.specs.declared.Bounded.{Bounded}
 use Rattle.rules.specs.declared.Bounded.the-variants as bounded
 use Rattle.rules.specs.Image.{Image, CICR}
-use Rattle.rules.specs.Outcomes.{state, outcome, isRefused}
+use Rattle.rules.specs.Outcomes.{alone, outcome, isRefused}
 use Rattle.rules.specs.Sources.{sources, unmasked, dmaEnabled, level}
 use Rattle.rules.specs.Steps.{actOf}
 use Rattle.rules.specs.Runs.{Event, eventOf, history, oneIf}
@@ -95,9 +95,9 @@ more cs among e = oneIf (triggers among e) + raisedBy cs among e
 
 -- the step x at this index, from the image `before` in a list from `start`: done, with what it breaks, and how many of the rivals at the start it triggers or raises
 pub record Follows (start before : Image) (cs : List Channel) (ours : ℕ) (x : Step) (index : ℕ) (f : Seen) (after : Image) : Type 0 where
-  pub did : outcome (f .answer) (state after) ≡ actOf (state before) cs x
-  pub breaks : f .broken ≡ broken (brokenBy cs ours (eventOf (state before) x (outcome (f .answer) (state after))) index)
-  pub counts : f .more ≡ more cs (rival start cs ours) (eventOf (state before) x (outcome (f .answer) (state after)))
+  pub did : outcome (f .answer) (alone after) ≡ actOf (alone before) cs x
+  pub breaks : f .broken ≡ broken (brokenBy cs ours (eventOf (alone before) x (outcome (f .answer) (alone after))) index)
+  pub counts : f .more ≡ more cs (rival start cs ours) (eventOf (alone before) x (outcome (f .answer) (alone after)))
 
 -- ---- the loop
 
@@ -108,8 +108,8 @@ followedFrom cs ours among outranking n counted es =
 
 -- what is answered of the steps of a list of words until ours is acknowledged
 abbrev pub stepsBound : Image → List Channel → ℕ → List ℕ → Bounded
-stepsBound m cs ours words = handlerBoundIn m cs ours (upTo ours (history (state m) cs (stepsOf words)))
+stepsBound m cs ours words = handlerBoundIn m cs ours (upTo ours (history (alone m) cs (stepsOf words)))
 
 -- and with the premises on the start
 abbrev pub wordsBound : Image → List Channel → ℕ → List ℕ → Bounded
-wordsBound m cs ours words = acceptedHandlerBound (state m) cs ours (stepsOf words)
+wordsBound m cs ours words = acceptedHandlerBound m cs ours (stepsOf words)

@@ -1,5 +1,5 @@
 // The bound over lists with reads and writes, on an image and a list that are accepted, for a source that is there: the premises on the start, as demand 3
-// has them, then the steps until ours is acknowledged, followed on a copy of the image.
+// has them, then the steps until ours is acknowledged, followed on a copy of the image, without a memory.
 mod changes;
 
 use bits::has_bit;
@@ -23,7 +23,7 @@ use rules::Channels;
 use rules::IEN;
 use rules::Step;
 use rules::Verdict;
-use runs::perform;
+use runs::perform_alone;
 ghost use mathlib.Core.Path.{_≡_};
 ghost use mathlib.Core.Bool.{true};
 ghost use Prim.Native.Nat.{_<_};
@@ -127,7 +127,7 @@ fn follow_write(
     ensures { λ f. ⌜ Follows (now (start .entry)) (now (copy .entry)) (listOf all) (at .ours) (decodeOf (at .word)) (at .index) f (now (copy .exit)) ⌝ }
 {
     let before = copy_of(copy);
-    let answer = perform(copy, all, masks, places, at.word);
+    let answer = perform_alone(copy, all, masks, places, at.word);
     match verdict_of(answer) {
         Verdict::Accepted => {
             let broken = first_changed(&before, copy, all, places, at.ours, at.index);
@@ -160,7 +160,7 @@ fn follow(
 {
     let step = decode(at.word);
     if is_file_write(step) {
-        let answer = perform(copy, all, masks, places, at.word);
+        let answer = perform_alone(copy, all, masks, places, at.word);
         return Seen {
             answer,
             broken: Premises::Hold,
@@ -171,7 +171,7 @@ fn follow(
         return follow_write(start, copy, all, masks, places, at);
     }
     let disabled = is_arbitration(step) & !has_bit(copy[CICR], IEN);
-    let answer = perform(copy, all, masks, places, at.word);
+    let answer = perform_alone(copy, all, masks, places, at.word);
     let broken = broken_call(step, answer, disabled, at.index);
     let more = rival_trigger(start, all, places, at.ours, step, answer);
     Seen {

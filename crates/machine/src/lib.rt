@@ -1,5 +1,5 @@
 // The model with the channel list by value: the refusals of what is lent, the six steps, a step given as a word, runs, the wait report and the two bounds.
-// Any image, any list and any step gets an answer.
+// Any image, any list, any memory and any step gets an answer.
 use bounds::bound_accepted;
 use channels::MASKS;
 use channels::PLACES;
@@ -13,6 +13,7 @@ use rules::Bounded;
 use rules::Channels;
 use rules::EXTERNALS;
 use rules::IMAGE_LENGTH;
+use rules::MOST_MEMORY;
 use rules::Ran;
 use rules::Refusal;
 use rules::Step;
@@ -23,45 +24,67 @@ use runs::run_accepted;
 use runs::wait_accepted;
 ghost use mathlib.Core.Path.{_≡_};
 ghost use Rattle.rules.specs.Channels.{listOf};
-ghost use Rattle.rules.specs.Outcomes.{state};
+ghost use lib.Dec.{leb};
+ghost use lib.ListN.{length};
+ghost use Rattle.rules.specs.Image.{mostMemory};
+ghost use Rattle.rules.specs.Outcomes.{state, alone, refusedUnless};
 ghost use Rattle.rules.specs.Steps.{lentVerdict};
 ghost use Rattle.rules.specs.Runs.{waitVerdict};
 ghost use Rattle.channels.specs.Laid.{noMasks, noPlaces, Laid};
 ghost use Rattle.rules.specs.Promises.{Does, Reads, Writes, Triggers, Arbitrates, Returns, Resets, DoesWord, Runs, Waits, Bounds, HandlerBounds};
 
-// What is lent: refused with 1, then with 2. A list that is accepted is laid out; one of no records is so from the start, and
+// A memory is refused with 8 where it is over 65,536 bytes.
+fn memory_verdict(memory: &[u8]) -> Verdict
+    ensures { λ v. ⌜ v ≡ refusedUnless (leb (length (now (memory .entry))) mostMemory) Refusal.Memory Verdict.Accepted ⌝ }
+{
+    if MOST_MEMORY < memory.len() {
+        return Verdict::Refused(Refusal::Memory);
+    }
+    Verdict::Accepted
+}
+
+// What is lent: refused with 1, then with 2, then with 8. A list that is accepted is laid out; one of no records is so from the start, and
 // `list_ok` would copy it.
 fn lent_verdict(
     image: &[u8],
     all: Channels,
+    memory: &[u8],
     masks: &mut [u8; MASKS],
     places: &mut [u16; PLACES],
 ) -> Verdict
     requires { ⌜ (now masks ≡ noMasks) × (now places ≡ noPlaces) ⌝ }
-    ensures { λ v. ⌜ (v ≡ lentVerdict (state (now (image .entry))) (listOf all)) × (v ≡ Verdict.Accepted → Laid (listOf all) (now (masks .exit)) (now (places .exit))) ⌝ }
+    ensures { λ v. ⌜ (v ≡ lentVerdict (state (now (image .entry)) (now (memory .entry))) (listOf all)) × (v ≡ Verdict.Accepted → Laid (listOf all) (now (masks .exit)) (now (places .exit))) ⌝ }
 {
     if image.len() != IMAGE_LENGTH {
         return Verdict::Refused(Refusal::Length);
     }
     if all.count == 0 {
-        return Verdict::Accepted;
+        return memory_verdict(memory);
     }
     if list_ok(all, masks, places) {
-        return Verdict::Accepted;
+        return memory_verdict(memory);
     }
     Verdict::Refused(Refusal::List)
 }
 
-// One step: refusals 1 and 2, then the step's own.
-fn one_step(image: &mut [u8], all: Channels, step: Step) -> Answer
-    ensures { λ a. ⌜ Does (now (image .entry)) (listOf all) step a (now (image .exit)) ⌝ }
+// One step: refusals 1, 2 and 8, then the step's own.
+fn one_step(image: &mut [u8], all: Channels, memory: &mut [u8], step: Step) -> Answer
+    ensures { λ a. ⌜ Does (state (now (image .entry)) (now (memory .entry))) (listOf all) step a (state (now (image .exit)) (now (memory .exit))) ⌝ }
 {
     let mut masks = no_masks();
     let mut places = no_places();
-    match lent_verdict(image, all, &mut masks, &mut places) {
-        Verdict::Accepted => act(image, all, &masks, &places, step),
+    match lent_verdict(image, all, memory, &mut masks, &mut places) {
+        Verdict::Accepted => act(image, memory, all, &masks, &places, step),
         Verdict::Refused(r) => Answer::Refused(r),
     }
+}
+
+// A step without a memory.
+fn step_alone(image: &mut [u8], all: Channels, step: Step) -> Answer
+    ensures { λ a. ⌜ Does (alone (now (image .entry))) (listOf all) step a (alone (now (image .exit))) ⌝ }
+{
+    let mut none: [u8; 0] = [0; 0];
+    one_step(image, all, &mut none, step)
 }
 
 // Reads a register.
@@ -70,7 +93,8 @@ pub fn read(image: &[u8], all: Channels, register: u32) -> Answer
 {
     let mut masks = no_masks();
     let mut places = no_places();
-    match lent_verdict(image, all, &mut masks, &mut places) {
+    let none: [u8; 0] = [0; 0];
+    match lent_verdict(image, all, &none, &mut masks, &mut places) {
         Verdict::Accepted => registers::read(image, all, &masks, register),
         Verdict::Refused(r) => Answer::Refused(r),
     }
@@ -80,73 +104,74 @@ pub fn read(image: &[u8], all: Channels, register: u32) -> Answer
 pub fn write(image: &mut [u8], all: Channels, register: u32, value: u8) -> Answer
     ensures { λ a. ⌜ Writes (now (image .entry)) (listOf all) register value a (now (image .exit)) ⌝ }
 {
-    one_step(image, all, Step::Write(register, value))
+    step_alone(image, all, Step::Write(register, value))
 }
 
 // A trigger.
 pub fn trigger(image: &mut [u8], all: Channels, event: Trigger) -> Answer
     ensures { λ a. ⌜ Triggers (now (image .entry)) (listOf all) event a (now (image .exit)) ⌝ }
 {
-    one_step(image, all, Step::Trigger(event))
+    step_alone(image, all, Step::Trigger(event))
 }
 
 // An arbitration.
-pub fn arbitrate(image: &mut [u8], all: Channels) -> Answer
-    ensures { λ a. ⌜ Arbitrates (now (image .entry)) (listOf all) a (now (image .exit)) ⌝ }
+pub fn arbitrate(image: &mut [u8], all: Channels, memory: &mut [u8]) -> Answer
+    ensures { λ a. ⌜ Arbitrates (state (now (image .entry)) (now (memory .entry))) (listOf all) a (state (now (image .exit)) (now (memory .exit))) ⌝ }
 {
-    one_step(image, all, Step::Arbitrate)
+    one_step(image, all, memory, Step::Arbitrate)
 }
 
 // The return.
 pub fn return_from_interrupt(image: &mut [u8], all: Channels) -> Answer
     ensures { λ a. ⌜ Returns (now (image .entry)) (listOf all) a (now (image .exit)) ⌝ }
 {
-    one_step(image, all, Step::Return)
+    step_alone(image, all, Step::Return)
 }
 
 // A reset.
 pub fn reset(image: &mut [u8], all: Channels) -> Answer
     ensures { λ a. ⌜ Resets (now (image .entry)) (listOf all) a (now (image .exit)) ⌝ }
 {
-    one_step(image, all, Step::Reset)
+    step_alone(image, all, Step::Reset)
 }
 
 // The step that a word stands for.
-pub fn perform(image: &mut [u8], all: Channels, word: u64) -> Answer
-    ensures { λ a. ⌜ DoesWord (now (image .entry)) (listOf all) word a (now (image .exit)) ⌝ }
+pub fn perform(image: &mut [u8], all: Channels, memory: &mut [u8], word: u64) -> Answer
+    ensures { λ a. ⌜ DoesWord (state (now (image .entry)) (now (memory .entry))) (listOf all) word a (state (now (image .exit)) (now (memory .exit))) ⌝ }
 {
     let mut masks = no_masks();
     let mut places = no_places();
-    match lent_verdict(image, all, &mut masks, &mut places) {
-        Verdict::Accepted => runs::perform(image, all, &masks, &places, word),
+    match lent_verdict(image, all, memory, &mut masks, &mut places) {
+        Verdict::Accepted => runs::perform(image, memory, all, &masks, &places, word),
         Verdict::Refused(r) => Answer::Refused(r),
     }
 }
 
 // A run: what is lent is checked once, then the steps are done one after another up to the first refused.
-pub fn run(image: &mut [u8], all: Channels, words: &[u64]) -> Ran
-    ensures { λ r. ⌜ Runs (now (image .entry)) (listOf all) (now (words .entry)) r (now (image .exit)) ⌝ }
+pub fn run(image: &mut [u8], all: Channels, memory: &mut [u8], words: &[u64]) -> Ran
+    ensures { λ r. ⌜ Runs (state (now (image .entry)) (now (memory .entry))) (listOf all) (now (words .entry)) r (state (now (image .exit)) (now (memory .exit))) ⌝ }
 {
     let mut masks = no_masks();
     let mut places = no_places();
-    match lent_verdict(image, all, &mut masks, &mut places) {
-        Verdict::Accepted => run_accepted(image, all, &masks, &places, words),
+    match lent_verdict(image, all, memory, &mut masks, &mut places) {
+        Verdict::Accepted => run_accepted(image, memory, all, &masks, &places, words),
         Verdict::Refused(r) => Ran::Refused(r),
     }
 }
 
-// What a wait report is refused with before any step: 1, 2, then 4 where there is no such source.
+// What a wait report is refused with before any step: 1, 2, 8, then 4 where there is no such source.
 fn wait_verdict(
     image: &[u8],
     all: Channels,
+    memory: &[u8],
     masks: &mut [u8; MASKS],
     places: &mut [u16; PLACES],
     source: u32,
 ) -> Verdict
     requires { ⌜ (now masks ≡ noMasks) × (now places ≡ noPlaces) ⌝ }
-    ensures { λ v. ⌜ (v ≡ waitVerdict (state (now (image .entry))) (listOf all) source) × (v ≡ Verdict.Accepted → Laid (listOf all) (now (masks .exit)) (now (places .exit))) ⌝ }
+    ensures { λ v. ⌜ (v ≡ waitVerdict (state (now (image .entry)) (now (memory .entry))) (listOf all) source) × (v ≡ Verdict.Accepted → Laid (listOf all) (now (masks .exit)) (now (places .exit))) ⌝ }
 {
-    match lent_verdict(image, all, masks, places) {
+    match lent_verdict(image, all, memory, masks, places) {
         Verdict::Accepted => {
             if (source as usize) < EXTERNALS + all.count {
                 return Verdict::Accepted;
@@ -158,13 +183,19 @@ fn wait_verdict(
 }
 
 // The wait report: a run up to the acknowledgement of a source, with its arbitrations counted.
-pub fn wait(image: &mut [u8], all: Channels, source: u32, words: &[u64]) -> Waited
-    ensures { λ w. ⌜ Waits (now (image .entry)) (listOf all) source (now (words .entry)) w (now (image .exit)) ⌝ }
+pub fn wait(
+    image: &mut [u8],
+    all: Channels,
+    memory: &mut [u8],
+    source: u32,
+    words: &[u64],
+) -> Waited
+    ensures { λ w. ⌜ Waits (state (now (image .entry)) (now (memory .entry))) (listOf all) source (now (words .entry)) w (state (now (image .exit)) (now (memory .exit))) ⌝ }
 {
     let mut masks = no_masks();
     let mut places = no_places();
-    match wait_verdict(image, all, &mut masks, &mut places, source) {
-        Verdict::Accepted => wait_accepted(image, all, &masks, &places, source, words),
+    match wait_verdict(image, all, memory, &mut masks, &mut places, source) {
+        Verdict::Accepted => wait_accepted(image, memory, all, &masks, &places, source, words),
         Verdict::Refused(r) => Waited::Refused(r),
     }
 }
@@ -175,7 +206,8 @@ pub fn bound(image: &[u8], all: Channels, source: u32, words: &[u64]) -> Bounded
 {
     let mut masks = no_masks();
     let mut places = no_places();
-    match wait_verdict(image, all, &mut masks, &mut places, source) {
+    let none: [u8; 0] = [0; 0];
+    match wait_verdict(image, all, &none, &mut masks, &mut places, source) {
         Verdict::Accepted => bound_accepted(image, all, &masks, &places, source, words),
         Verdict::Refused(r) => Bounded::Refused(r),
     }
@@ -187,7 +219,8 @@ pub fn handler_bound(image: &[u8], all: Channels, source: u32, words: &[u64]) ->
 {
     let mut masks = no_masks();
     let mut places = no_places();
-    match wait_verdict(image, all, &mut masks, &mut places, source) {
+    let none: [u8; 0] = [0; 0];
+    match wait_verdict(image, all, &none, &mut masks, &mut places, source) {
         Verdict::Accepted => handler_bound_accepted(image, all, &masks, &places, source, words),
         Verdict::Refused(r) => Bounded::Refused(r),
     }

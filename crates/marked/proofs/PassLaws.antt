@@ -1,5 +1,5 @@
 -- How the code compares, and what a yes means. Assumes nothing.
-use mathlib.Core.Path.{_≡_, refl, ap, ap₂}
+use mathlib.Core.Path.{_≡_, refl, ap, ap₂, _∙_}
 use mathlib.Core.Bool.{Bool, true, false, false≢true, _&&_}
 use mathlib.Core.List.{List, [], _∷_, map}
 use Prim.Native.Nat.{ℕ, _+_, _<_, _≤_}
@@ -13,12 +13,14 @@ use Rattle.rules.specs.declared.Step.{Step}
 use Rattle.rules.specs.declared.Answer.{Answer}
 use Rattle.rules.specs.declared.Flat.{Flat}
 use Rattle.rules.specs.Image.{Image}
-use Rattle.rules.specs.Outcomes.{outcome, state}
+use Rattle.rules.specs.Outcomes.{State, outcome, alone}
 use Rattle.rules.specs.Steps.{stepOf}
 use Rattle.rules.specs.Runs.{Event, history}
 use Rattle.rules.specs.Encodings.{told}
+use Rattle.rules.specs.Promises.{Does}
 use Rattle.rules.specs.Examples.{storing, Line, Scenario, does, says, saysFrom}
 use Rattle.rules.proofs.Bools.{and-l, and-r}
+use Rattle.rules.proofs.MemoryLaws.{alone-stays}
 use Rattle.rules.proofs.Told.{told-injective}
 use Rattle.marked.specs.Passes.{sameNumbers, sameBytes, holds, linesHold, scenariosHold}
 
@@ -37,6 +39,13 @@ byte-other a b i la lb e = rw (drop-cons a i 0 la, drop-cons b i 0 lb, ne-eqb (g
 pub none-left : (a b : Image) (i : ℕ) → length a ≤ i → length b ≤ i → sameBytes (drop i a) (drop i b) ≡ true
 unfolding sameBytes
 none-left a b i la lb = rw (drop-of-length-le a la, drop-of-length-le b lb)
+
+-- ---- a step that keeps its promise is compared as `holds` says, for the list ds that the code has as cs
+
+pub compared : (cs ds : List Channel) (m : Image) (x : Step) (a b : Answer) (t : State) (after : Image) → cs ≡ ds → Does (alone m) cs x a t
+    → (sameNumbers (told a) (told b) && sameBytes (t .image) after) ≡ holds ds m x b after
+unfolding holds
+compared cs ds m x a b t after same (d, e) = rw (d, e, same)
 
 -- ---- what a yes means
 
@@ -78,16 +87,17 @@ same-bytes (x ∷ xs) (y ∷ ys) e =
 
 -- a step answers this and leaves this
 step-held : (cs : List Channel) (m : Image) (x : Step) (b : Answer) (after : Image) → holds cs m x b after ≡ true
-    → stepOf (state m) cs x ≡ outcome b (state after)
+    → stepOf (alone m) cs x ≡ outcome b (alone after)
 unfolding holds
 step-held cs m x b after e =
-    let o = stepOf (state m) cs x in
+    let o = stepOf (alone m) cs x in
     let t = sameNumbers (told (o .answer)) (told b) in
     let l = sameBytes (o .left .image) after in
-    ap₂ outcome (told-injective (o .answer) b (same-numbers (told (o .answer)) (told b) (and-l t l e))) (ap state (same-bytes (o .left .image) after (and-r t l e)))
+    ap₂ outcome (told-injective (o .answer) b (same-numbers (told (o .answer)) (told b) (and-l t l e)))
+    (alone-stays m cs x ∙ ap alone (same-bytes (o .left .image) after (and-r t l e)))
 
 lines-held : (cs : List Channel) (m : Image) (ls : List Line) → linesHold cs m ls ≡ true
-    → map (λ (e : Event). e .outcome) (history (state m) cs (map (λ (l : Line). l .step) ls)) ≡ saysFrom m ls
+    → map (λ (e : Event). e .outcome) (history (alone m) cs (map (λ (l : Line). l .step) ls)) ≡ saysFrom m ls
 unfolding history
 lines-held cs m [] e = refl
 lines-held cs m (l ∷ ls) e =

@@ -9,7 +9,7 @@ use Rattle.rules.specs.declared.Step.{Step}
 use Rattle.rules.specs.declared.Answer.{Answer}
 use Rattle.rules.specs.declared.Flat.{Flat}
 use Rattle.rules.specs.Image.{Image, CICR, EIPR, EIMR, EIPLR, NICR}
-use Rattle.rules.specs.Outcomes.{state}
+use Rattle.rules.specs.Outcomes.{alone}
 use Rattle.rules.specs.Steps.{stepOf}
 use Rattle.rules.specs.Encodings.{told}
 use Rattle.rules.specs.Examples.{_↤_, storing, Line, Scenario, image}
@@ -27,10 +27,10 @@ sameBytes [] (y ∷ ys) = false
 sameBytes (x ∷ xs) [] = false
 sameBytes (x ∷ xs) (y ∷ ys) = eqb x y && sameBytes xs ys
 
--- on this list and image a step answers this and leaves this whole image
+-- on this list and image, without a memory, a step answers this and leaves this whole image
 unfoldable pub holds : List Channel → Image → Step → Answer → Image → Bool
 holds cs before x answered after =
-    let o = stepOf (state before) cs x in
+    let o = stepOf (alone before) cs x in
     sameNumbers (told (o .answer)) (told answered) && sameBytes (o .left .image) after
 
 -- each line's step does, on the image that the paper says the line before it left

@@ -43,7 +43,8 @@ fn arbitrates(
     ensures { λ r. ⌜ r ≡ holds (listOf all) before Step.Arbitrate answer after ⌝ }
 {
     let mut image = before;
-    let a = machine::arbitrate(&mut image, all);
+    let mut none: [u8; 0] = [0; 0];
+    let a = machine::arbitrate(&mut image, all, &mut none);
     as_said(a, answer, image, after)
 }
 

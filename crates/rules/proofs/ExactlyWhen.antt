@@ -31,16 +31,17 @@ use Rattle.rules.specs.Registers.{placeOf, readAt, readOf, writeAt, writ
 use Rattle.rules.specs.Sources.{recordOf}
 use Rattle.rules.specs.Triggers.{triggerVerdict, fired, triggerOf}
 use Rattle.rules.specs.Requests.{winnerOf}
-use Rattle.rules.specs.Transfer.{pairOf, served, transferOf}
+use Rattle.rules.specs.Transfer.{pairOf, finished, served, registerTransfer, addressPairOf, wordAt, servedMemory, memoryTransfer, transferOf}
 use Rattle.rules.specs.Arbitration.{granted, topLevel, arbitrateOf}
 use Rattle.rules.specs.Return.{returnOf}
 use Rattle.rules.specs.Steps.{lentVerdict, actOf, stepOf}
 use Rattle.rules.proofs.Verdicts.{verdict-elim}
-use Rattle.rules.proofs.Bools.{cond-elim, or-cases}
+use Rattle.rules.proofs.Bools.{cond-elim, or-cases, or-off, or-off-r}
 use Rattle.rules.proofs.WriteLaws.{write-refused, read-refused}
 use Rattle.rules.proofs.SelectionLaws.{pin-refused, nmi-verdict, request-verdict, kind-verdict}
-use Rattle.rules.proofs.TransferLaws.{transfer-memory, transfer-pointer}
-use Rattle.rules.proofs.Refusals.{Lent, lent-means, length-first, list-second, accepted-acts, unknown-step}
+use Rattle.rules.proofs.TransferLaws.{transfer-pointer}
+use Rattle.rules.proofs.MemoryTransferLaws.{memory-pointer, memory-address}
+use Rattle.rules.proofs.Refusals.{Lent, lent-means, length-first, list-second, memory-third, accepted-acts, unknown-step}
 
 -- ---- the table
 
@@ -63,17 +64,25 @@ pub record DmaWins (m : Image) (cs : List Channel) (x : Step) (w : ℕ) : Type 0
   pub noTop : topLevel m ≡ false
   pub wins : winnerOf m cs ≡ winner.Dma w
 
+-- with the register file a pair or an address over 223, with the memory a pointer over 222
+abbrev pub BadPointer : Image → Channel → Type 0
+BadPointer m c =
+    ((at m (dcprByte c) % 2 ≡ 1) × ((223 < pairOf m c) ⊎ (223 < at m (pairOf m c))))
+    ⊎ ((at m (dcprByte c) % 2 ≡ 0) × ((222 < pairOf m c) ⊎ (222 < addressPairOf m c)))
+
 -- why a step is refused with each number; 3 to 7 only on lent data that are accepted
 abbrev pub Cause : State → List Channel → Step → Refusal → Type 0
 Cause s cs x refusal.Length = length (s .image) ≢ 1265
 Cause s cs x refusal.List = (length (s .image) ≡ 1265) × (listOk cs ≡ false)
 Cause s cs x refusal.Register = Lent s cs verdict.Accepted × (r : ℕ) × Accesses x r × (placeOf (s .image) cs r ≡ Unmodelled)
 Cause s cs x refusal.Number = Lent s cs verdict.Accepted × (t : Trigger) × (x ≡ step.Trigger t) × BadNumber cs t
-Cause s cs x refusal.Memory = Lent s cs verdict.Accepted × (w : ℕ) × DmaWins (s .image) cs x w × (at (s .image) (dcprByte (recordOf cs w)) % 2 ≡ 0)
-Cause s cs x refusal.Pointer =
-    Lent s cs verdict.Accepted × (w : ℕ) × DmaWins (s .image) cs x w × (at (s .image) (dcprByte (recordOf cs w)) % 2 ≡ 1)
-    × ((223 < pairOf (s .image) (recordOf cs w)) ⊎ (223 < at (s .image) (pairOf (s .image) (recordOf cs w))))
+Cause s cs x refusal.Address =
+    Lent s cs verdict.Accepted × (w : ℕ) × DmaWins (s .image) cs x w × (at (s .image) (dcprByte (recordOf cs w)) % 2 ≡ 0)
+    × (pairOf (s .image) (recordOf cs w) ≤ 222) × (addressPairOf (s .image) (recordOf cs w) ≤ 222)
+    × (length (s .memory) ≤ wordAt (s .image) (addressPairOf (s .image) (recordOf cs w)))
+Cause s cs x refusal.Pointer = Lent s cs verdict.Accepted × (w : ℕ) × DmaWins (s .image) cs x w × BadPointer (s .image) (recordOf cs w)
 Cause s cs x refusal.Kind = Lent s cs verdict.Accepted × ((x ≡ step.Unknown) ⊎ (x ≡ step.Trigger trigger.Unknown))
+Cause s cs x refusal.Memory = (length (s .image) ≡ 1265) × (listOk cs ≡ true) × (65536 < length (s .memory))
 
 -- ---- only then
 
@@ -121,19 +130,35 @@ module _ (s : State) (cs : List Channel) (l : Lent s cs verdict.Accepted) where
       verdict-elim (λ (o : Outcome Answer Image). Explained s cs (step.Trigger t) (verdictOf (o .answer))) (triggerVerdict cs t) (λ e. tt) (λ r e. rw e at h)
 
   -- what an arbitration answers with has its cause
-  abbrev Arbitrated : Outcome Answer Image → Type 0
+  abbrev Arbitrated : Outcome Answer State → Type 0
   Arbitrated c = Explained s cs step.Arbitrate (verdictOf (c .answer))
 
-  grant-explained : inService m ≡ false → topLevel m ≡ false → (w : Winner) → winnerOf m cs ≡ w → Arbitrated (granted m cs w)
-  unfolding granted transferOf served
+  grant-explained : inService m ≡ false → topLevel m ≡ false → (w : Winner) → winnerOf m cs ≡ w → Arbitrated (granted s cs w)
+  unfolding granted transferOf registerTransfer memoryTransfer served servedMemory finished
   grant-explained i t winner.Nobody e = tt
   grant-explained i t (winner.Interrupt w k) e = tt
   grant-explained i t (winner.Dma w) e =
       let c = recordOf cs w in
       let wins : DmaWins m cs step.Arbitrate w = record { arbitrates = refl; idle = i; noTop = t; wins = e } in
-      cond-elim Arbitrated (eqb (at m (dcprByte c) % 2) 0) (λ z. (l, w, wins, eqb-true (at m (dcprByte c) % 2) 0 z))
-      (λ z. cond-elim Arbitrated (ltb 223 (pairOf m c) || ltb 223 (at m (pairOf m c)))
-      (λ o. (l, w, wins, odd (at m (dcprByte c)) (eqb-false (at m (dcprByte c) % 2) 0 z), over 223 223 (pairOf m c) (at m (pairOf m c)) o)) (λ o. tt))
+      let n = pairOf m c in
+      let p = addressPairOf m c in
+      let a = wordAt m p in
+      cond-elim Arbitrated (eqb (at m (dcprByte c) % 2) 0)
+      (λ z.
+      let even = eqb-true (at m (dcprByte c) % 2) 0 z in
+      cond-elim Arbitrated (ltb 222 n || ltb 222 p) (λ o. (l, w, wins, inr (even, over 222 222 n p o)))
+      (λ o. cond-elim Arbitrated (ltb a (length (s .memory))) (λ q. tt)
+      (λ q. (
+        l,
+        w,
+        wins,
+        even,
+        ltb-false 222 n (or-off (ltb 222 n) (ltb 222 p) o),
+        ltb-false 222 p (or-off-r (ltb 222 n) (ltb 222 p) o),
+        ltb-false a (length (s .memory)) q,
+      ))))
+      (λ z. cond-elim Arbitrated (ltb 223 n || ltb 223 (at m n))
+      (λ o. (l, w, wins, inl (odd (at m (dcprByte c)) (eqb-false (at m (dcprByte c) % 2) 0 z), over 223 223 n (at m n) o))) (λ o. tt))
     where
       odd : (n : ℕ) → n % 2 ≢ 0 → n % 2 ≡ 1
       odd n d = omega arith
@@ -155,9 +180,10 @@ lent-explained s cs x refusal.Length h = h
 lent-explained s cs x refusal.List h = h
 lent-explained s cs x refusal.Register h = absurd h
 lent-explained s cs x refusal.Number h = absurd h
-lent-explained s cs x refusal.Memory h = absurd h
+lent-explained s cs x refusal.Address h = absurd h
 lent-explained s cs x refusal.Pointer h = absurd h
 lent-explained s cs x refusal.Kind h = absurd h
+lent-explained s cs x refusal.Memory h = h
 
 -- a refusal is given only for its cause, whatever the image, the list and the step are
 pub refused-only : (s : State) (cs : List Channel) (x : Step) (r : Refusal) → stepOf s cs x .answer ≡ answer.Refused r → Cause s cs x r
@@ -179,7 +205,7 @@ bad-number cs trigger.Unknown h = absurd h
 
 module _ (s : State) (cs : List Channel) (x : Step) (l : Lent s cs verdict.Accepted) where
   acts : (y : Step) → x ≡ y → (a : Answer) → actOf s cs y .answer ≡ a → stepOf s cs x .answer ≡ a
-  acts y e a p = rw (e, accepted-acts s cs y (l .0) (l .1)) p
+  acts y e a p = rw (e, accepted-acts s cs y (l .0) (l .1) (l .2)) p
 
   accessed : (r : ℕ) → Accesses x r → placeOf (s .image) cs r ≡ Unmodelled → stepOf s cs x .answer ≡ answer.Refused refusal.Register
   unfolding actOf
@@ -190,12 +216,12 @@ module _ (s : State) (cs : List Channel) (x : Step) (l : Lent s cs verdict.Accep
   unfolding actOf triggerOf
   triggered t r e v = acts (step.Trigger t) e (answer.Refused r) (rw v)
 
-  transfers : (w : ℕ) (c : Outcome Answer Image) → DmaWins (s .image) cs x w → transferOf (s .image) (recordOf cs w) w ≡ c → stepOf s cs x .answer ≡ c .answer
+  transfers : (w : ℕ) (c : Outcome Answer State) → DmaWins (s .image) cs x w → transferOf s (recordOf cs w) w ≡ c → stepOf s cs x .answer ≡ c .answer
   unfolding actOf arbitrateOf granted
   transfers w c h p = acts step.Arbitrate (h .arbitrates) (c .answer) (rw (h .idle, h .noTop, h .wins, p))
 
   unknown : (x ≡ step.Unknown) ⊎ (x ≡ step.Trigger trigger.Unknown) → stepOf s cs x .answer ≡ answer.Refused refusal.Kind
-  unknown (inl e) = rw (e, unknown-step s cs (l .0) (l .1))
+  unknown (inl e) = rw (e, unknown-step s cs (l .0) (l .1) (l .2))
   unknown (inr e) = triggered trigger.Unknown refusal.Kind e (kind-verdict cs .1)
 
 -- where there is a cause the step is refused with its number, and by refused-same nothing changes
@@ -204,6 +230,8 @@ refused-whenever s cs x refusal.Length h = rw (length-first s cs x h)
 refused-whenever s cs x refusal.List (h, f) = rw (list-second s cs x h f)
 refused-whenever s cs x refusal.Register (l, r, a, f) = accessed s cs x l r a f
 refused-whenever s cs x refusal.Number (l, t, e, h) = triggered s cs x l t refusal.Number e (bad-number cs t h)
-refused-whenever s cs x refusal.Memory (l, w, h, z) = transfers s cs x l w _ h (transfer-memory (s .image) (recordOf cs w) w z)
-refused-whenever s cs x refusal.Pointer (l, w, h, o, p) = transfers s cs x l w _ h (transfer-pointer (s .image) (recordOf cs w) w o p)
+refused-whenever s cs x refusal.Address (l, w, h, z, n, p, a) = transfers s cs x l w _ h (memory-address s (recordOf cs w) w z n p a)
+refused-whenever s cs x refusal.Pointer (l, w, h, inl o) = transfers s cs x l w _ h (transfer-pointer s (recordOf cs w) w (o .0) (o .1))
+refused-whenever s cs x refusal.Pointer (l, w, h, inr o) = transfers s cs x l w _ h (memory-pointer s (recordOf cs w) w (o .0) (o .1))
 refused-whenever s cs x refusal.Kind (l, h) = unknown s cs x l h
+refused-whenever s cs x refusal.Memory (h, f, k) = rw (memory-third s cs x h f k)

@@ -16,7 +16,7 @@ use Rattle.rules.specs.declared.Basis.{Basis}
 use Rattle.rules.specs.declared.Bounded.{Bounded}
 use Rattle.rules.specs.declared.Bounded.the-variants as bounded
 use Rattle.rules.specs.Image.{Image, has, inService, CPL, IAM, TLI, TLNM}
-use Rattle.rules.specs.Outcomes.{state}
+use Rattle.rules.specs.Outcomes.{alone}
 use Rattle.rules.specs.Sources.{sources, pending, unmasked, dmaEnabled, level}
 use Rattle.rules.specs.Runs.{Event, history, anyEvent, waitVerdict}
 use Rattle.rules.specs.Demand3.{H, E, Start}
@@ -60,7 +60,7 @@ module _ (p : Event → Bool) where
 module _ (m : Image) (cs : List Channel) (s : ℕ) where
   -- within the rules, and the source is there
   abbrev Accepted : Type 0
-  Accepted = waitVerdict (state m) cs s ≡ verdict.Accepted
+  Accepted = waitVerdict (alone m) cs s ≡ verdict.Accepted
 
   -- concurrent mode
   abbrev Concurrent : Type 0
@@ -97,7 +97,7 @@ module _ (m : Image) (cs : List Channel) (s : ℕ) where
       let idle = source .0 .0 in
       let top = idle .0 in
       let mode = top .0 .0 in
-      let lent = lent-sound (state m) cs (accepted-lent (state m) cs s (mode .0)) in
+      let lent = lent-sound (alone m) cs (accepted-lent (alone m) cs s (mode .0)) in
       record {
         calm =
             record {
@@ -109,7 +109,7 @@ module _ (m : Image) (cs : List Channel) (s : ℕ) where
               noTLNM = top .1;
               idle = idle .1;
             };
-        there = accepted-source (state m) cs s (mode .0);
+        there = accepted-source (alone m) cs s (mode .0);
         waits = source .0 .1;
         unmaskedThere = source .1;
         above = f .1;
@@ -118,7 +118,7 @@ module _ (m : Image) (cs : List Channel) (s : ℕ) where
   -- the premises before it hold, and it fails; what is said of the answers on the steps is given
   module _ (Other : ℕ → Type 0) (Changes : Basis → ℕ → Type 0) (Disabled : ℕ → Type 0) (All : Type 0) where
     abbrev pub FailingBy : Bounded → Type 0
-    FailingBy (bounded.Refused r) = waitVerdict (state m) cs s ≡ verdict.Refused r
+    FailingBy (bounded.Refused r) = waitVerdict (alone m) cs s ≡ verdict.Refused r
     FailingBy bounded.Nested = Accepted × (has m IAM ≡ true)
     FailingBy bounded.DmaEnabled = Concurrent × (k : ℕ) × (k < sources cs) × (dmaEnabled m cs k ≡ true)
     FailingBy bounded.TopLevelEnabled = NoDma × ((has m TLNM ≡ true) ⊎ (has m TLI ≡ true))
@@ -179,11 +179,11 @@ module _ (m : Image) (cs : List Channel) (s : ℕ) (es : List Event) where
   steps-failing a none none h e p q = (a, (first-none otherStep 0 es p, first-none disabledStep 0 es q))
 
 -- each answer is the first premise that fails
-pub first-failing : (m : Image) (cs : List Channel) (s : ℕ) (xs : List Step) → Failing m cs s (history (state m) cs xs) (boundOf (state m) cs s xs)
+pub first-failing : (m : Image) (cs : List Channel) (s : ℕ) (xs : List Step) → Failing m cs s (history (alone m) cs xs) (boundOf m cs s xs)
 unfolding boundOf boundIn
 first-failing m cs s xs =
-    let es = history (state m) cs xs in
-    verdict-elim (Failing m cs s es) (waitVerdict (state m) cs s)
+    let es = history (alone m) cs xs in
+    verdict-elim (Failing m cs s es) (waitVerdict (alone m) cs s)
     (start-failing m cs s _ _ _ _ (boundIn m cs s es)
     (λ a. steps-failing m cs s es a (firstFrom 0 otherStep es) (firstFrom 0 disabledStep es) (H m cs s) (E m cs s es) refl refl))
     (λ r e. e)

@@ -1,11 +1,12 @@
 -- The bound of Handlers as a function: a bound is answered exactly where the premises hold, else the first premise that fails. Assumes nothing.
-use mathlib.Core.Path.{_≡_, refl, sym, _∙_, subst}
+use mathlib.Core.Path.{_≡_, refl, sym, ap, ap₂, _∙_, subst}
 use mathlib.Core.Logic.{_⊎_, inl, inr}
 use mathlib.Core.List.{List, [], _∷_}
 use mathlib.Core.Bool.{Bool, true, false, cond}
 use mathlib.Core.Option.{Option, none, some, orElse, Option·getD}
 use Prim.Native.Nat.{ℕ, suc, _+_, _≤_}
 use native.Mathlib.Omega.{arith}
+use lib.Dec.{lit≤}
 use lib.ListN.{take, drop}
 use Rattle.rules.specs.declared.Channel.{Channel}
 use Rattle.rules.specs.declared.Step.{Step}
@@ -13,8 +14,8 @@ use Rattle.rules.specs.declared.Step.the-variants as step
 use Rattle.rules.specs.declared.Basis.{Basis}
 use Rattle.rules.specs.declared.Bounded.{Bounded}
 use Rattle.rules.specs.declared.Bounded.the-variants as bounded
-use Rattle.rules.specs.Image.{Image, has, IEN}
-use Rattle.rules.specs.Outcomes.{state}
+use Rattle.rules.specs.Image.{Image, Memory, Fits, has, IEN}
+use Rattle.rules.specs.Outcomes.{state, alone}
 use Rattle.rules.specs.Runs.{Event, history, eventRefused, isArbitration, eventAcknowledges, waitVerdict}
 use Rattle.rules.specs.Demand3.{Enabled, rival, H, Start}
 use Rattle.rules.specs.Handlers.{isWrite, EAndRaised, MayDo, May, Handles, upTo}
@@ -23,16 +24,17 @@ use Rattle.rules.specs.HandlerBounds.{changes, bases, firstChanged, brok
 use Rattle.rules.specs.Encodings.{stepsOf}
 use Rattle.rules.specs.Promises.{HandlerBoundNotAbove, HandlerBoundWaits}
 use Rattle.rules.proofs.Verdicts.{verdict-elim}
-use Rattle.rules.proofs.Bools.{not-both}
+use Rattle.rules.proofs.Bools.{implied, implies, not-both}
 use Rattle.rules.proofs.Refusals.{lent-accepted}
 use Rattle.rules.proofs.WaitLaws.{wait-accepted}
 use Rattle.rules.proofs.Told.{told-bound-injective}
 use Rattle.rules.proofs.FirstFailing.{Above, above-start, FailingBy, start-failing}
-use Rattle.rules.proofs.Handlers.{handle-until, fewer-until}
+use Rattle.rules.proofs.Handlers.{handle-may, handle-until, fewer-until}
+use Rattle.rules.proofs.Apart.{history-apart, counted-apart, handles-apart}
 use Rattle.rules.proofs.Demand3.{calls-handle, calls-raise-none}
 use Rattle.rules.proofs.RunsAndWaits.{wait-within}
 use Rattle.rules.proofs.ChangeLaws.{leaves-unchanged, unchanged-leaves, Leads, FirstIs, first-is, every-basis}
-use Rattle.rules.proofs.BoundLaws.{where-elim, implied, implies, exactly-where, start-kept, bound-says, keeps-told}
+use Rattle.rules.proofs.BoundLaws.{where-elim, exactly-where, start-kept, bound-says, keeps-told}
 
 -- ---- what a step, an event and a list break
 
@@ -148,41 +150,56 @@ module _ (m : Image) (cs : List Channel) (s : ℕ) (es : List Event) where
 module _ (m : Image) (cs : List Channel) (s : ℕ) (xs : List Step) where
   -- the steps until ours is acknowledged
   abbrev events : List Event
-  events = upTo s (history (state m) cs xs)
+  events = upTo s (history (alone m) cs xs)
 
   -- each answer is the first premise that fails
-  pub handler-failing : HandlerFailing m cs s events (handlerBoundOf (state m) cs s xs)
+  pub handler-failing : HandlerFailing m cs s events (handlerBoundOf m cs s xs)
   unfolding handlerBoundOf handlerBoundIn
   handler-failing =
-      verdict-elim (HandlerFailing m cs s events) (waitVerdict (state m) cs s)
+      verdict-elim (HandlerFailing m cs s events) (waitVerdict (alone m) cs s)
       (start-failing m cs s _ _ _ _ (handlerBoundIn m cs s events)
       (λ a. steps-failing m cs s events a (firstBroken cs s 0 events) (H m cs s) (EAndRaised m cs s events) (list-breaks cs s events 0)))
       (λ r e. e)
 
   -- with the premises the bound is H + E + 1
   pub handler-bound-given : Start m cs s → Handles cs s events
-      → handlerBoundOf (state m) cs s xs ≡ bounded.Within (H m cs s) (EAndRaised m cs s events) (H m cs s + EAndRaised m cs s events + 1)
+      → handlerBoundOf m cs s xs ≡ bounded.Within (H m cs s) (EAndRaised m cs s events) (H m cs s + EAndRaised m cs s events + 1)
   unfolding handlerBoundOf handlerBoundIn
   handler-bound-given a c =
-      rw (wait-accepted (state m) cs s (lent-accepted (state m) cs (a .calm .long) (a .calm .listed)) (a .there))
+      rw (wait-accepted (alone m) cs s (lent-accepted (alone m) cs (a .calm .long) (a .calm .listed) (lit≤ tt)) (a .there))
       (start-kept m cs s (handlerBoundIn m cs s events) a ∙ rw (handles-none cs s events 0 c))
 
   -- and with a bound they hold
-  pub handler-premises : (h e k : ℕ) → handlerBoundOf (state m) cs s xs ≡ bounded.Within h e k → Start m cs s × Handles cs s events
+  pub handler-premises : (h e k : ℕ) → handlerBoundOf m cs s xs ≡ bounded.Within h e k → Start m cs s × Handles cs s events
   handler-premises h e k q = let f = subst (HandlerFailing m cs s events) q handler-failing in (above-start m cs s (f .0), f .1)
 
-  -- so one is answered exactly where they hold
-  pub handler-bound-says : HandlerBoundSays (state m) cs s xs (handlerBoundOf (state m) cs s xs)
-  handler-bound-says =
-      exactly-where (Start m cs s) (Handles cs s events) (H m cs s) (EAndRaised m cs s events) (handlerBoundOf (state m) cs s xs) handler-bound-given
-      handler-premises
+  -- the events until ours is acknowledged are with one memory those with another, where the premises hold of them
+  abbrev eventsWith : Memory → List Event
+  eventsWith memory = upTo s (history (state m memory) cs xs)
+
+  handles-same : (one other : Memory) → Fits one → Fits other → Start m cs s → Handles cs s (eventsWith one)
+      → Handles cs s (eventsWith other) × (EAndRaised m cs s (eventsWith other) ≡ EAndRaised m cs s (eventsWith one))
+  handles-same one other fits fits′ a c =
+      let es = eventsWith one in
+      let n = counted-apart cs s other (rival m cs s) es in
+      rw (history-apart cs s one other fits fits′ (eventAcknowledges s) (λ e. refl) xs m (a .calm) (handle-may cs s es c))
+      (handles-apart cs s other es c, ap₂ _+_ (n .0) (n .1))
+
+  -- so a bound is answered exactly where they hold, whatever memory that fits the steps get
+  pub handler-bound-says : (memory : Memory) → Fits memory → HandlerBoundSays (state m memory) cs s xs (handlerBoundOf m cs s xs)
+  handler-bound-says memory fits =
+      exactly-where (Start m cs s) (Handles cs s (eventsWith memory)) (H m cs s) (EAndRaised m cs s (eventsWith memory)) (handlerBoundOf m cs s xs)
+      (λ a c.
+      let q = handles-same memory [] fits (lit≤ tt) a c in
+      handler-bound-given a (q .0) ∙ ap (λ (e : ℕ). bounded.Within (H m cs s) e (H m cs s + e + 1)) (q .1))
+      (λ h e k q. let p = handler-premises h e k q in (p .0, handles-same [] memory (lit≤ tt) fits (p .0) (p .1) .0))
 
   -- where demand 3's bound is answered this one is too, and is no larger
-  pub handler-bound-sharper : (h e k : ℕ) → boundOf (state m) cs s xs ≡ bounded.Within h e k
-      → (e' : ℕ) × (e' ≤ e) × (handlerBoundOf (state m) cs s xs ≡ bounded.Within h e' (h + e' + 1))
+  pub handler-bound-sharper : (h e k : ℕ) → boundOf m cs s xs ≡ bounded.Within h e k
+      → (e' : ℕ) × (e' ≤ e) × (handlerBoundOf m cs s xs ≡ bounded.Within h e' (h + e' + 1))
   handler-bound-sharper h e k q =
-      let es = history (state m) cs xs in
-      let given : BoundSays (state m) cs s xs (bounded.Within h e k) = subst (BoundSays (state m) cs s xs) q (bound-says m cs s xs) in (
+      let es = history (alone m) cs xs in
+      let given : BoundSays (alone m) cs s xs (bounded.Within h e k) = subst (BoundSays (alone m) cs s xs) q (bound-says m cs s xs [] (lit≤ tt)) in (
         EAndRaised m cs s events,
         omega (arith, given .3, fewer-until m cs s (eventAcknowledges s) es, calls-raise-none cs s (rival m cs s) es (given .1)),
         rw (given .2) (handler-bound-given (given .0) (handle-until cs s (eventAcknowledges s) es (calls-handle cs s es (given .1)))),
@@ -195,17 +212,19 @@ handler-bound-not-above m cs s words b b' bounds handlers =
     let xs = stepsOf words in
     where-elim _ _ b
     (λ h e k q.
-    let sharper = handler-bound-sharper m cs s xs h e k (sym (told-bound-injective b (boundOf (state m) cs s xs) bounds) ∙ q) in
-    let same : b' ≡ bounded.Within h (sharper .0) (h + sharper .0 + 1) = told-bound-injective b' (handlerBoundOf (state m) cs s xs) handlers ∙ sharper .2 in
-    let given : BoundSays (state m) cs s xs (bounded.Within h e k) =
-    subst (BoundSays (state m) cs s xs) (sym (told-bound-injective b (boundOf (state m) cs s xs) bounds) ∙ q) (bound-says m cs s xs) in
+    let sharper = handler-bound-sharper m cs s xs h e k (sym (told-bound-injective b (boundOf m cs s xs) bounds) ∙ q) in
+    let same : b' ≡ bounded.Within h (sharper .0) (h + sharper .0 + 1) = told-bound-injective b' (handlerBoundOf m cs s xs) handlers ∙ sharper .2 in
+    let given : BoundSays (alone m) cs s xs (bounded.Within h e k) =
+    subst (BoundSays (alone m) cs s xs) (sym (told-bound-injective b (boundOf m cs s xs) bounds) ∙ q) (bound-says m cs s xs [] (lit≤ tt)) in
     rw same (refl, sharper .1, omega (arith, sharper .1, given .4)))
     (λ n. tt)
 
 pub handler-bound-waits : HandlerBoundWaits
-handler-bound-waits m cs s words b w after bounds waits =
+handler-bound-waits lent cs s words b w after fits bounds waits =
     let xs = stepsOf words in
-    keeps-told m cs s words b (handlerBoundOf (state m) cs s xs) w after bounds waits
+    let m = lent .image in
+    keeps-told lent cs s words b (handlerBoundOf m cs s xs) w after bounds waits
     (λ h e k q.
-    let given : HandlerBoundSays (state m) cs s xs (bounded.Within h e k) = subst (HandlerBoundSays (state m) cs s xs) q (handler-bound-says m cs s xs) in
-    (rw (given .4, given .2, given .3) (wait-within (state m) cs s xs (given .0) (given .1)), given .4))
+    let given : HandlerBoundSays lent cs s xs (bounded.Within h e k) =
+    subst (HandlerBoundSays lent cs s xs) q (handler-bound-says m cs s xs (lent .memory) fits) in
+    (rw (given .4, given .2, given .3) (wait-within lent cs s xs fits (given .0) (given .1)), given .4))

@@ -16,7 +16,7 @@ use Rattle.rules.specs.declared.Bounded.the-variants as bounded
 use Rattle.rules.specs.Image.{Image, pageByte, put, CICR, PPR, EIPR, EIMR, EIPLR, NICR}
 use Rattle.rules.specs.Channels.{idcrByte, ivrByte, dcprByte, daprByte, dataByte, recordsOk, member, distinct, allBytes, listOk}
 use Rattle.rules.specs.Table.{rows, rowPlace, existingBits}
-use Rattle.rules.specs.Outcomes.{state}
+use Rattle.rules.specs.Outcomes.{alone}
 use Rattle.rules.specs.Registers.{pageZero, recordPlace, recordsPlace, placeOf, readOf, storedByte, lostBits, writeAt, writeOf, resetByte, resetRow, resetRows, resetOf}
 use Rattle.rules.specs.Sources.{sources, pendingBit, pending, unmasked, dmaEnabled, externalLevel, level}
 use Rattle.rules.specs.Triggers.{triggerVerdict, selects, selectsTop, sourceEffect, raiseSource, topEffect, raiseTop, fired, triggerOf}
@@ -48,25 +48,25 @@ steps =
     ∷ step.Trigger (trigger.Pin 0 0) ∷ step.Return ∷ step.Arbitrate ∷ step.Return ∷ step.Arbitrate ∷ []
 
 abbrev pub events : List Event
-events = history (state start) channels steps
+events = history (alone start) channels steps
 
 -- the bound that is answered is H + E + 1, with H = 1, one trigger, and three rivals raised by writes; so the premises hold. Ours is not acknowledged among
 -- the first five arbitrations, and is by the sixth: a bound that forgets what the writes raise, or counts one for each write that raises, is wrong
 pub handlers-tight :
-    (handlerBoundOf (state start) channels ours steps ≡ bounded.Within 1 4 6) × Start start channels ours × Handles channels ours (upTo ours events)
+    (handlerBoundOf start channels ours steps ≡ bounded.Within 1 4 6) × Start start channels ours × Handles channels ours (upTo ours events)
     × (H start channels ours + E start channels ours events ≡ 2)
     × (arbitrationsIn (take 17 events) ≡ 5) × (acknowledgedIn ours (take 17 events) ≡ false)
     × (arbitrationsIn events ≡ 6) × (acknowledgedIn ours events ≡ true)
 unfolding start image digit bit putBit pageByte put idcrByte ivrByte dcprByte daprByte dataByte recordsOk member distinct allBytes listOk sources pendingBit pending unmasked dmaEnabled externalLevel level triggerVerdict selects selectsTop sourceEffect raiseSource topEffect raiseTop fired triggerOf requestOf eligible isAt wonBy candidate first winnerOfKind winnerAtLevel winnerOf vectorOf cleared acknowledged granted topLevel arbitrateOf returned returnOf lentVerdict actOf stepOf history outranks rival countBelow pendingOf anyEvent counted until rows existingBits pageZero recordPlace recordsPlace placeOf readOf storedByte lostBits writeAt writeOf raised raisedOf anyBelow changes firstChanged brokenStep brokenBy orElse firstBroken calmPremises sourcePremises waitVerdict handlerBoundIn handlerBoundOf
 handlers-tight =
-    let bound : handlerBoundOf (state start) channels ours steps ≡ bounded.Within 1 4 6 = refl in
+    let bound : handlerBoundOf start channels ours steps ≡ bounded.Within 1 4 6 = refl in
     let p = handler-premises start channels ours steps 1 4 6 bound in
     (bound, p .0, p .1, refl, refl, refl, refl, refl)
 
 -- ---- what the premises forbid: each write is answered with what it changed
 
 abbrev pub answerTo : List Step → Bounded
-answerTo xs = handlerBoundOf (state start) channels ours xs
+answerTo xs = handlerBoundOf start channels ours xs
 
 -- EIPR without our bit; CICR with IAM, with another CPL, with TLI; NICR with TLNM; EIMR and EIPLR changed; the record's DM set, its PRL changed; a reset;
 -- an arbitration after a write that clears IEN. Then two writes that change several things: CICR with IAM, another CPL and TLI, the record's IDCR with IM, DM

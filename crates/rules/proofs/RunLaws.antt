@@ -25,7 +25,7 @@ use Rattle.rules.proofs.Histories.{history-length, after-append, last-a
 abbrev ranBy : Verdict → ℕ → Answer → Ran
 ranBy v n a = refusedOr v (λ r. ran.RefusedAt r n) (ran.Done n a)
 
--- a run refused before any step, with 1 or 2, does nothing
+-- a run refused before any step, with 1, 2 or 8, does nothing
 pub run-refused : (s : State) (cs : List Channel) (xs : List Step) (r : Refusal) → lentVerdict s cs ≡ verdict.Refused r
     → runOf s cs xs ≡ outcome (ran.Refused r) s
 unfolding runOf

@@ -10,7 +10,7 @@ use Rattle.rules.specs.declared.Place.the-variants.{At}
 use Rattle.rules.specs.declared.Step.the-variants as step
 use Rattle.rules.specs.declared.Answer.the-variants as answer
 use Rattle.rules.specs.declared.Answer.{Answer}
-use Rattle.rules.specs.Image.{imageLength, at, PPR, NICR}
+use Rattle.rules.specs.Image.{imageLength, Fits, at, PPR, NICR}
 use Rattle.rules.specs.Channels.{listOk}
 use Rattle.rules.specs.Outcomes.{State, state, Outcome}
 use Rattle.rules.specs.Registers.{placeOf, writeOf}
@@ -25,11 +25,11 @@ unfolding stepOf actOf
 read-leaves s cs r = verdict-elim (λ (o : Outcome Answer State). o .left ≡ s) (lentVerdict s cs) (λ e. refl) (λ q e. refl)
 
 -- a read after a write to a register of eight bits answers what was written, NICR and PPR apart
-pub read-back : (s : State) (cs : List Channel) (r i v : ℕ) → length (s .image) ≡ imageLength → listOk cs ≡ true → at (s .image) PPR < 256
+pub read-back : (s : State) (cs : List Channel) (r i v : ℕ) → length (s .image) ≡ imageLength → listOk cs ≡ true → Fits (s .memory) → at (s .image) PPR < 256
     → placeOf (s .image) cs r ≡ At i 0xff → i ≢ NICR → i ≢ PPR → v < 256
     → stepOf (stepOf s cs (step.Write r v) .left) cs (step.Read r) .answer ≡ answer.Byte v
 unfolding actOf
-read-back s cs r i v long ok byte placed nicr ppr hv =
+read-back s cs r i v long ok fits byte placed nicr ppr hv =
     let after = writeOf (s .image) cs r v .left in
-    rw (accepted-acts s cs (step.Write r v) long ok, accepted-acts (state after) cs (step.Read r) (write-length (s .image) cs r i 0xff v placed ∙ long) ok)
+    rw (accepted-acts s cs (step.Write r v) long ok fits, accepted-acts (state after (s .memory)) cs (step.Read r) (write-length (s .image) cs r i 0xff v placed ∙ long) ok fits)
     (read-written (s .image) cs r i 0xff long byte placed v hv refl nicr ppr)

@@ -18,7 +18,7 @@ use Rattle.rules.specs.declared.Waited.the-variants as waited
 use Rattle.rules.specs.declared.Bounded.the-variants as bounded
 use Rattle.rules.specs.Image.{Image, pageByte, put, CICR, EIPR, EIMR, EIPLR}
 use Rattle.rules.specs.Channels.{idcrByte, ivrByte, dcprByte, daprByte, dataByte, recordsOk, member, distinct, allBytes, listOk}
-use Rattle.rules.specs.Outcomes.{state}
+use Rattle.rules.specs.Outcomes.{alone}
 use Rattle.rules.specs.Sources.{sources, pendingBit, pending, unmasked, dmaEnabled, externalLevel, level}
 use Rattle.rules.specs.Triggers.{triggerVerdict, selects, selectsTop, sourceEffect, raiseSource, topEffect, raiseTop, fired, triggerOf}
 use Rattle.rules.specs.Requests.{requestOf, eligible, isAt, wonBy, candidate, first, winnerOfKind, winnerAtLevel, winnerOf}
@@ -29,6 +29,7 @@ use Rattle.rules.specs.Runs.{until, lastAnswer, stateAfter, waitEvents, 
 use Rattle.rules.specs.Demand3.{outranks, rival, countBelow, pendingOf, H, E, Start, OnlyCalls}
 use Rattle.rules.specs.Bounds.{boundOf}
 use Rattle.rules.specs.Examples.{image, channel, _↤_}
+use Rattle.rules.proofs.Histories.{history-chain}
 use Rattle.rules.proofs.Demand3.{demand3}
 use Rattle.rules.proofs.BoundLaws.{none-calls, bound-given}
 
@@ -60,7 +61,7 @@ steps =
     ∷ request 0 ∷ step.Return ∷ step.Arbitrate ∷ step.Return ∷ step.Arbitrate ∷ []
 
 abbrev pub events : List Event
-events = history (state start) channels steps
+events = history (alone start) channels steps
 
 starts : Start start channels ours
 unfolding start image digit bit pageByte idcrByte ivrByte dcprByte daprByte dataByte recordsOk member distinct allBytes listOk sources pendingBit pending unmasked dmaEnabled externalLevel level
@@ -92,11 +93,11 @@ tight = (starts, none-calls events refl refl, refl, refl, refl, refl, refl, refl
 -- and demand 3 promises no later one: the list has no sixth
 pub demand3-tight : acknowledgedIn ours events ≡ true
 demand3-tight =
-    rw (take-length events) at (demand3 (state start) channels ours steps (tight .0) (tight .1) (length events) .0)
+    rw (take-length events) at (demand3 start channels ours events (history-chain (alone start) channels steps) (tight .0) (tight .1) (length events) .0)
     (omega (arith, tight .2, tight .3, tight .6))
 
 -- the bound that is answered for it is H + E + 1
-pub bound-tight : boundOf (state start) channels ours steps ≡ bounded.Within 2 2 5
+pub bound-tight : boundOf start channels ours steps ≡ bounded.Within 2 2 5
 bound-tight =
     bound-given start channels ours steps (tight .0) (tight .1)
     ∙ ap₂ (λ (h e : ℕ). bounded.Within h e (h + e + 1)) (tight .2) (tight .3)
@@ -105,8 +106,8 @@ bound-tight =
 abbrev pub accepted : List Step
 accepted = take 6 steps ++ drop 7 steps
 
-pub wait-tight : OnlyCalls (waitEvents (state start) channels ours accepted)
-    × (H start channels ours + E start channels ours (waitEvents (state start) channels ours accepted) ≡ 4)
-    × (waitOf (state start) channels ours accepted .answer ≡ waited.Acknowledged 5)
+pub wait-tight : OnlyCalls (waitEvents (alone start) channels ours accepted)
+    × (H start channels ours + E start channels ours (waitEvents (alone start) channels ours accepted) ≡ 4)
+    × (waitOf (alone start) channels ours accepted .answer ≡ waited.Acknowledged 5)
 unfolding start image digit bit putBit pageByte put idcrByte ivrByte dcprByte daprByte dataByte recordsOk member distinct allBytes listOk sources pendingBit pending unmasked dmaEnabled externalLevel level triggerVerdict selects selectsTop sourceEffect raiseSource topEffect raiseTop fired triggerOf requestOf eligible isAt wonBy candidate first winnerOfKind winnerAtLevel winnerOf vectorOf cleared acknowledged granted topLevel arbitrateOf returned returnOf lentVerdict actOf stepOf history outranks rival countBelow pendingOf anyEvent counted until lastAnswer stateAfter waitAnswer waitVerdict waitOf
-wait-tight = (none-calls (waitEvents (state start) channels ours accepted) refl refl, refl, refl)
+wait-tight = (none-calls (waitEvents (alone start) channels ours accepted) refl refl, refl, refl)

@@ -1,4 +1,4 @@
--- Document 01's DMA transfer, read a second time: when it is refused, and what a served request moves, counts, answers and leaves.
+-- Document 01's DMA transfer with the register file, read a second time: when it is refused, and what a served request moves, counts, answers and leaves.
 -- Assumes nothing.
 use mathlib.Core.Path.{_≡_, refl, sym, ap, _∙_}
 use mathlib.Core.Logic.{_≢_, _⊎_, inl, inr}
@@ -17,8 +17,8 @@ use Rattle.rules.specs.declared.Answer.the-variants as answer
 use Rattle.rules.specs.declared.Refusal.the-variants as refusal
 use Rattle.rules.specs.Image.{Image, imageLength, at, has, put, bitOf}
 use Rattle.rules.specs.Channels.{recordAt, idcrByte, dcprByte, dataByte, listOk, IP, DM, IM}
-use Rattle.rules.specs.Outcomes.{Outcome, refuse}
-use Rattle.rules.specs.Transfer.{pairOf, movedByte, lessOne, advanced, settled, served, transferOf}
+use Rattle.rules.specs.Outcomes.{State, Outcome, refuse}
+use Rattle.rules.specs.Transfer.{pairOf, movedByte, lessOne, advanced, settled, finished, served, registerTransfer, transferOf}
 use Rattle.rules.proofs.Bools.{cond-elim, cond-and, or-r}
 use Rattle.rules.proofs.ImageLaws.{put-length, at-put-other, has-put-same, has-put-bit, has-put-other}
 use Rattle.rules.proofs.ChannelLaws.{OnPage, record-in-range, record-ok, register-range, registers-apart}
@@ -32,52 +32,54 @@ counterOf m c = at m (pairOf m c + 1)
 
 -- ---- when it is refused
 
-module _ (m : Image) (c : Channel) (s : ℕ) where
-  -- a DCPR with bit 0 clear points to memory, which is refused first,
-  pub transfer-memory : at m (dcprByte c) % 2 ≡ 0 → transferOf m c s ≡ refuse refusal.Memory m
-  unfolding transferOf
-  transfer-memory e = rw e
+module _ (lent : State) (c : Channel) (s : ℕ) where
+  abbrev image : Image
+  image = lent .image
 
-  -- then a pair or an address over R223 is,
-  pub transfer-pointer : at m (dcprByte c) % 2 ≡ 1 → (223 < pairOf m c) ⊎ (223 < at m (pairOf m c)) → transferOf m c s ≡ refuse refusal.Pointer m
-  unfolding transferOf
-  transfer-pointer e (inl h) = rw (e, lt-ltb 223 (pairOf m c) h)
+  -- with DCPR bit 0 = 1, a pair or an address over R223 is,
+  pub transfer-pointer : at image (dcprByte c) % 2 ≡ 1 → (223 < pairOf image c) ⊎ (223 < at image (pairOf image c)) → transferOf lent c s ≡ refuse refusal.Pointer lent
+  unfolding transferOf registerTransfer
+  transfer-pointer e (inl h) = rw (e, lt-ltb 223 (pairOf image c) h)
   transfer-pointer e (inr h) =
-      rw (e, or-r (ltb 223 (pairOf m c)) (ltb 223 (at m (pairOf m c))) (lt-ltb 223 (at m (pairOf m c)) h))
+      rw (e, or-r (ltb 223 (pairOf image c)) (ltb 223 (at image (pairOf image c))) (lt-ltb 223 (at image (pairOf image c)) h))
 
   -- and any other request is served
-  pub transfer-served : at m (dcprByte c) % 2 ≡ 1 → pairOf m c ≤ 223 → at m (pairOf m c) ≤ 223 → transferOf m c s ≡ served m c s (pairOf m c) (addressOf m c) (counterOf m c)
-  unfolding transferOf
-  transfer-served e n a = rw (e, le-ltb 223 (pairOf m c) n, le-ltb 223 (at m (pairOf m c)) a)
+  pub transfer-served : at image (dcprByte c) % 2 ≡ 1 → pairOf image c ≤ 223 → at image (pairOf image c) ≤ 223
+      → transferOf lent c s ≡ served lent c s (pairOf image c) (addressOf image c) (counterOf image c)
+  unfolding transferOf registerTransfer
+  transfer-served e n a = rw (e, le-ltb 223 (pairOf image c) n, le-ltb 223 (at image (pairOf image c)) a)
 
-  -- the pair is the even register of the two that DCPR names
-  pub pair-even : (pairOf m c % 2 ≡ 0) × (pairOf m c / 2 ≡ at m (dcprByte c) / 2)
-  unfolding pairOf
-  pair-even = (omega arith, omega arith)
+-- the pair is the even register of the two that DCPR names
+pub pair-even : (m : Image) (c : Channel) → (pairOf m c % 2 ≡ 0) × (pairOf m c / 2 ≡ at m (dcprByte c) / 2)
+unfolding pairOf
+pair-even m c = (omega arith, omega arith)
 
 -- ---- the end of a block
 
--- it ends exactly if the counter was 1
-ended-one : (count : ℕ) → count < 256 → eqb (lessOne count) 0 ≡ eqb count 1
-unfolding lessOne
-ended-one count h = go (ℕ-discrete count 1)
+-- it ends exactly if the counter was 1, on either path: the new counter is 0 then, and only then
+pub ended-one : (left count : ℕ) → (left ≡ 0 → count ≡ 1) → (count ≡ 1 → left ≡ 0) → eqb left 0 ≡ eqb count 1
+ended-one left count p q = go (ℕ-discrete count 1)
   where
-    go : Dec (count ≡ 1) → eqb ((count + 255) % 256) 0 ≡ eqb count 1
-    go (yes e) = rw e
-    go (no d) = ne-eqb ((count + 255) % 256) 0 (λ e. d (omega arith)) ∙ sym (ne-eqb count 1 d)
+    go : Dec (count ≡ 1) → eqb left 0 ≡ eqb count 1
+    go (yes e) = rw (e, q e)
+    go (no d) = ne-eqb left 0 (λ e. d (p e)) ∙ sym (ne-eqb count 1 d)
+
+byte-ended : (count : ℕ) → count < 256 → eqb (lessOne count) 0 ≡ eqb count 1
+unfolding lessOne
+byte-ended count h = ended-one ((count + 255) % 256) count (λ e. omega arith) (λ e. omega arith)
 
 -- IDCR at the end of a service: IP, DM, and the other bits; and the other bytes
 module _ (m : Image) (c : Channel) (ended : Bool) where
   abbrev disabled : Image
   disabled = cond ended (put m (DM c) false) m
 
-  settled-byte : (j : ℕ) → j ≢ idcrByte c → at (settled m c ended) j ≡ at m j
+  pub settled-byte : (j : ℕ) → j ≢ idcrByte c → at (settled m c ended) j ≡ at m j
   unfolding settled
   settled-byte j d =
       at-put-other disabled (IP c) (ended && has m (IM c)) j d ∙ cond-elim (λ i. at i j ≡ at m j) ended (λ t. at-put-other m (DM c) false j d) (λ f. refl)
 
   -- DM is cleared at the end of a block
-  settled-bit : (x : ℕ) → x < 8 → x ≢ 5 → idcrByte c < length m
+  pub settled-bit : (x : ℕ) → x < 8 → x ≢ 5 → idcrByte c < length m
       → has (settled m c ended) (bitOf (idcrByte c) x) ≡ (has m (bitOf (idcrByte c) x) && not (ended && eqb x 4))
   unfolding settled
   settled-bit x h d inside =
@@ -86,7 +88,7 @@ module _ (m : Image) (c : Channel) (ended : Bool) where
       (λ t. rw t (has-put-bit m (DM c) false x inside (lit< tt) h ∙ cond-and (eqb x 4) (has m (bitOf (idcrByte c) x))))
       (λ f. rw f (sym (and-true (has m (bitOf (idcrByte c) x)))))
 
-  settled-IP : idcrByte c < length m → has (settled m c ended) (IP c) ≡ (ended && has m (IM c))
+  pub settled-IP : idcrByte c < length m → has (settled m c ended) (IP c) ≡ (ended && has m (IM c))
   unfolding settled
   settled-IP inside =
       has-put-same disabled (IP c) (ended && has m (IM c))
@@ -134,24 +136,33 @@ module _ (m : Image) (c : Channel) (a : ℕ) where
       one : eqb (c .direction) 0 ≡ false → c .direction ≡ 1
       one f = let n : c .direction ≢ 0 = eqb-false (c .direction) 0 f in omega arith
 
+-- ---- where a record's registers stand that a transfer names
+
+pub record Stands (c : Channel) : Type 0 where
+  pub idcrPage : OnPage (idcrByte c)
+  pub dataPage : OnPage (dataByte c)
+  pub apart : idcrByte c ≢ dataByte c
+  pub oneWay : c .direction ≤ 1
+
+-- so it is of a record of a list within the rules
+pub stands : (cs : List Channel) (k : ℕ) → listOk cs ≡ true → k < length cs → Stands (recordAt cs k)
+stands cs k ok there =
+    record {
+      idcrPage = register-range cs ok k 0 there (lit< tt);
+      dataPage = register-range cs ok k 4 there (lit< tt);
+      apart = registers-apart cs ok k 0 k 4 there there (lit< tt) (lit< tt) (inr (λ e. omega arith));
+      oneWay = record-in-range (recordAt cs k) (record-ok cs ok k there) .one-way;
+    }
+
 -- ---- a served request of source s, whose record is c: n is its pair
 
-module _ (m : Image) (cs : List Channel) (k : ℕ) (c : Channel) (s : ℕ) (is : c ≡ recordAt cs k) (long : length m ≡ imageLength) (ok : listOk cs ≡ true)
-    (there : k < length cs) (pair : pairOf m c ≤ 223) (address : addressOf m c ≤ 223) where
-  idcr-page : OnPage (idcrByte c)
-  idcr-page = rw is (register-range cs ok k 0 there (lit< tt))
-
-  data-page : OnPage (dataByte c)
-  data-page = rw is (register-range cs ok k 4 there (lit< tt))
-
-  idcr-not-data : idcrByte c ≢ dataByte c
-  idcr-not-data = rw is (registers-apart cs ok k 0 k 4 there there (lit< tt) (lit< tt) (inr (λ e. omega arith)))
-
-  one-way : c .direction ≤ 1
-  one-way = record-in-range c (rw is (record-ok cs ok k there)) .one-way
+module _ (lent : State) (c : Channel) (s : ℕ) (r : Stands c) (long : length (lent .image) ≡ imageLength)
+    (pair : pairOf (lent .image) c ≤ 223) (address : addressOf (lent .image) c ≤ 223) where
+  abbrev m : Image
+  m = lent .image
 
   next-register : pairOf m c + 1 ≤ 223
-  next-register = omega (arith, pair-even m c s)
+  next-register = omega (arith, pair-even m c)
 
   -- after the byte has moved
   abbrev moved : Image
@@ -162,85 +173,90 @@ module _ (m : Image) (cs : List Channel) (k : ℕ) (c : Channel) (s : ℕ) (is :
   transferred = advanced moved (pairOf m c) (addressOf m c) (counterOf m c)
 
   -- what is answered and left at the end
-  abbrev pub done : Outcome Answer Image
-  done = served m c s (pairOf m c) (addressOf m c) (counterOf m c)
+  abbrev pub done : Outcome Answer State
+  done = served lent c s (pairOf m c) (addressOf m c) (counterOf m c)
 
   inside : (j : ℕ) → j < imageLength → j < length moved
   inside j h = rw (moved-length m c (addressOf m c), long) h
 
   -- any byte but IDCR is as the transfer leaves it, and any byte but Rn and R(n+1) as the move leaves it
-  from-transferred : (j : ℕ) → j ≢ idcrByte c → at (done .left) j ≡ at transferred j
-  unfolding served
+  from-transferred : (j : ℕ) → j ≢ idcrByte c → at (done .left .image) j ≡ at transferred j
+  unfolding served finished
   from-transferred j d = settled-byte transferred c (eqb (lessOne (counterOf m c)) 0) j d
 
   from-moved : (j : ℕ) → j ≢ pairOf m c → j ≢ pairOf m c + 1 → at transferred j ≡ at moved j
   from-moved = advanced-other moved (pairOf m c) _ _
 
   -- Rn becomes the address plus one, whatever the move hit,
-  pub transfer-address : at (done .left) (pairOf m c) ≡ addressOf m c + 1
+  pub transfer-address : at (done .left .image) (pairOf m c) ≡ addressOf m c + 1
   transfer-address =
-      from-transferred (pairOf m c) (λ e. omega (arith, idcr-page))
+      from-transferred (pairOf m c) (λ e. omega (arith, r .idcrPage))
       ∙ advanced-address moved (pairOf m c) (addressOf m c) (counterOf m c) (inside (pairOf m c) (omega arith))
 
   -- R(n+1) the counter less one, and 255 from 0,
   pub transfer-counter : counterOf m c < 256
-      → (counterOf m c ≡ 0 → at (done .left) (pairOf m c + 1) ≡ 255)
-      × (0 < counterOf m c → at (done .left) (pairOf m c + 1) + 1 ≡ counterOf m c)
+      → (counterOf m c ≡ 0 → at (done .left .image) (pairOf m c + 1) ≡ 255)
+      × (0 < counterOf m c → at (done .left .image) (pairOf m c + 1) + 1 ≡ counterOf m c)
   unfolding lessOne
   transfer-counter h =
-      let e : at (done .left) (pairOf m c + 1) ≡ (counterOf m c + 255) % 256 =
-      from-transferred (pairOf m c + 1) (λ e. omega (arith, idcr-page, next-register))
+      let e : at (done .left .image) (pairOf m c + 1) ≡ (counterOf m c + 255) % 256 =
+      from-transferred (pairOf m c + 1) (λ e. omega (arith, r .idcrPage, next-register))
       ∙ advanced-counter moved (pairOf m c) _ (counterOf m c) (inside (pairOf m c + 1) (omega (arith, next-register))) in
       (λ z. omega arith, λ p. omega arith)
 
   -- direction 0: Ra takes the data register's byte, where it is neither Rn nor R(n+1),
   pub transfer-in : c .direction ≡ 0 → addressOf m c ≢ pairOf m c → addressOf m c ≢ pairOf m c + 1
-      → at (done .left) (addressOf m c) ≡ at m (dataByte c)
+      → at (done .left .image) (addressOf m c) ≡ at m (dataByte c)
   transfer-in e d f =
-      from-transferred (addressOf m c) (λ e. omega (arith, idcr-page)) ∙ from-moved (addressOf m c) d f
+      from-transferred (addressOf m c) (λ e. omega (arith, r .idcrPage)) ∙ from-moved (addressOf m c) d f
       ∙ moved-in m c (addressOf m c) e (rw long (omega arith))
 
   -- direction 1: the data register takes Ra's byte as it was, also where that is Rn or R(n+1)
-  pub transfer-out : c .direction ≡ 1 → at (done .left) (dataByte c) ≡ at m (addressOf m c)
+  pub transfer-out : c .direction ≡ 1 → at (done .left .image) (dataByte c) ≡ at m (addressOf m c)
   transfer-out e =
-      from-transferred (dataByte c) (λ d. idcr-not-data (sym d))
-      ∙ from-moved (dataByte c) (λ d. omega (arith, data-page)) (λ d. omega (arith, data-page, next-register))
-      ∙ moved-out m c (addressOf m c) e (rw long (omega (arith, data-page)))
+      from-transferred (dataByte c) (λ d. r .apart (sym d))
+      ∙ from-moved (dataByte c) (λ d. omega (arith, r .dataPage)) (λ d. omega (arith, r .dataPage, next-register))
+      ∙ moved-out m c (addressOf m c) e (rw long (omega (arith, r .dataPage)))
 
   -- every other byte stays but IDCR
   pub transfer-frame : (j : ℕ) → j ≢ pairOf m c → j ≢ pairOf m c + 1 → j ≢ idcrByte c → (c .direction ≡ 0 → j ≢ addressOf m c) → (c .direction ≡ 1 → j ≢ dataByte c)
-      → at (done .left) j ≡ at m j
+      → at (done .left .image) j ≡ at m j
   transfer-frame j d e f x y =
-      from-transferred j f ∙ from-moved j d e ∙ moved-other m c (addressOf m c) one-way j x y
+      from-transferred j f ∙ from-moved j d e ∙ moved-other m c (addressOf m c) (r .oneWay) j x y
 
   -- and so does each that is neither a register up to R223 nor on pages 1 to 63: CICR, NICR, EIPR and the mark among them
-  pub transfer-named : (j : ℕ) → 223 < j → (OnPage j → ⊥) → at (done .left) j ≡ at m j
+  pub transfer-named : (j : ℕ) → 223 < j → (OnPage j → ⊥) → at (done .left .image) j ≡ at m j
   transfer-named j h off =
-      transfer-frame j (λ e. omega arith) (λ e. omega (arith, next-register)) (λ e. off (rw e idcr-page)) (λ d e. omega arith) (λ d e. off (rw e data-page))
+      transfer-frame j (λ e. omega arith) (λ e. omega (arith, next-register)) (λ e. off (rw e (r .idcrPage))) (λ d e. omega arith) (λ d e. off (rw e (r .dataPage)))
 
   -- the answer: the block has ended exactly if the counter was 1
   pub transfer-answer : counterOf m c < 256 → done .answer ≡ answer.Transferred s (eqb (counterOf m c) 1)
-  unfolding served
-  transfer-answer h = ap (answer.Transferred s) (ended-one (counterOf m c) h)
+  unfolding served finished
+  transfer-answer h = ap (answer.Transferred s) (byte-ended (counterOf m c) h)
 
   -- IDCR before the end's part is as it was
   idcr-kept : at transferred (idcrByte c) ≡ at m (idcrByte c)
   idcr-kept =
-      from-moved (idcrByte c) (λ d. omega (arith, idcr-page)) (λ d. omega (arith, idcr-page, next-register))
-      ∙ moved-other m c (addressOf m c) one-way (idcrByte c) (λ e d. omega (arith, idcr-page)) (λ e. idcr-not-data)
+      from-moved (idcrByte c) (λ d. omega (arith, r .idcrPage)) (λ d. omega (arith, r .idcrPage, next-register))
+      ∙ moved-other m c (addressOf m c) (r .oneWay) (idcrByte c) (λ e d. omega (arith, r .idcrPage)) (λ e. r .apart)
 
   idcr-inside : idcrByte c < length transferred
-  idcr-inside = rw advanced-length (inside (idcrByte c) (omega (arith, idcr-page)))
+  idcr-inside = rw advanced-length (inside (idcrByte c) (omega (arith, r .idcrPage)))
 
   -- IP is set afterwards exactly at the end of a block with IM set,
-  pub transfer-IP : counterOf m c < 256 → has (done .left) (IP c) ≡ (eqb (counterOf m c) 1 && has m (IM c))
-  unfolding served
+  pub transfer-IP : counterOf m c < 256 → has (done .left .image) (IP c) ≡ (eqb (counterOf m c) 1 && has m (IM c))
+  unfolding served finished
   transfer-IP h =
-      settled-IP transferred c (eqb (lessOne (counterOf m c)) 0) idcr-inside ∙ rw (ended-one (counterOf m c) h, idcr-kept)
+      settled-IP transferred c (eqb (lessOne (counterOf m c)) 0) idcr-inside ∙ rw (byte-ended (counterOf m c) h, idcr-kept)
 
   -- DM stays but at the end of a block, where it is cleared; every other bit of IDCR stays
   pub transfer-IDCR : counterOf m c < 256 → (x : ℕ) → x < 8 → x ≢ 5
-      → has (done .left) (bitOf (idcrByte c) x) ≡ (has m (bitOf (idcrByte c) x) && not (eqb (counterOf m c) 1 && eqb x 4))
-  unfolding served
+      → has (done .left .image) (bitOf (idcrByte c) x) ≡ (has m (bitOf (idcrByte c) x) && not (eqb (counterOf m c) 1 && eqb x 4))
+  unfolding served finished
   transfer-IDCR h x hx d =
-      settled-bit transferred c (eqb (lessOne (counterOf m c)) 0) x hx d idcr-inside ∙ rw (ended-one (counterOf m c) h, idcr-kept)
+      settled-bit transferred c (eqb (lessOne (counterOf m c)) 0) x hx d idcr-inside ∙ rw (byte-ended (counterOf m c) h, idcr-kept)
+
+  -- the memory stays
+  pub transfer-memory : done .left .memory ≡ lent .memory
+  unfolding served finished
+  transfer-memory = refl

@@ -2,12 +2,12 @@
 use mathlib.Core.Path.{_≡_, refl}
 use mathlib.Core.List.{List, []}
 use Rattle.rules.specs.declared.Channel.{Channel}
-use Rattle.rules.specs.declared.Step.{Step}
 use Rattle.rules.specs.declared.Refusal.{Refusal}
 use Rattle.rules.specs.declared.Verdict.{Verdict}
 use Rattle.rules.specs.declared.Verdict.the-variants as verdict
+use Rattle.rules.specs.Image.{Image}
 use Rattle.rules.specs.Outcomes.{State, outcome, refusedOr}
-use Rattle.rules.specs.Runs.{Event, history, stateAfter}
+use Rattle.rules.specs.Runs.{Event, Chain, stateAfter}
 
 -- what holds of both ways of a verdict, each where it is taken
 pub verdict-elim : {A : Type 0} (P : A → Type 0) (v : Verdict) {f : Refusal → A} {x : A}
@@ -28,9 +28,7 @@ unfolding stateAfter
 verdict-left verdict.Accepted s f a es = refl
 verdict-left (verdict.Refused r) s f a es = refl
 
--- and these are a history
-pub verdict-history : (v : Verdict) (s : State) (cs : List Channel) (es : List Event) (ys : List Step) → es ≡ history s cs ys
-    → (zs : List Step) × (refusedOr v (λ r. []) es ≡ history s cs zs)
-unfolding history
-verdict-history verdict.Accepted s cs es ys e = (ys, e)
-verdict-history (verdict.Refused r) s cs es ys e = ([], refl)
+-- and these are a list of calls
+pub verdict-chain : (v : Verdict) (m : Image) (cs : List Channel) (es : List Event) → Chain m cs es → Chain m cs (refusedOr v (λ r. []) es)
+verdict-chain verdict.Accepted m cs es l = l
+verdict-chain (verdict.Refused r) m cs es l = tt

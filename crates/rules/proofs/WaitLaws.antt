@@ -27,7 +27,7 @@ use Rattle.rules.proofs.Bools.{impossible, cond-elim}
 use Rattle.rules.proofs.Verdicts.{verdict-elim, verdict-same}
 use Rattle.rules.proofs.AcknowledgedBy.{acknowledges-accepted}
 
--- ---- refused before any step: 1 and 2 for what is lent, then the source number
+-- ---- refused before any step: 1, 2 and 8 for what is lent, then the source number
 
 -- a wait report refused so does nothing
 pub wait-refused : (s : State) (cs : List Channel) (source : ℕ) (xs : List Step) (r : Refusal) → waitVerdict s cs source ≡ verdict.Refused r

@@ -11,7 +11,7 @@ use Rattle.rules.specs.declared.Winner.{Winner}
 use Rattle.rules.specs.declared.Winner.the-variants as winner
 use Rattle.rules.specs.Image.{Image, at, has, put, putCPL, inService, CPL, HL, IAM, IEN, TLI, TLIP, TLNM, EIVR, MARK}
 use Rattle.rules.specs.Channels.{ivrByte}
-use Rattle.rules.specs.Outcomes.{Outcome, outcome}
+use Rattle.rules.specs.Outcomes.{State, Outcome, outcome, changed}
 use Rattle.rules.specs.Sources.{external, recordOf, pendingBit}
 use Rattle.rules.specs.Requests.{winnerOf}
 use Rattle.rules.specs.Transfer.{transferOf}
@@ -54,14 +54,17 @@ acknowledged m cs source l = put (cleared (acknowledgedLevels m l) cs source) IE
 
 -- ---- an arbitration
 
--- what the winner gets; a DMA request that has won may be refused with 5 or 6
-unfoldable pub granted : Image → List Channel → Winner → Outcome Answer Image
-granted m cs winner.Nobody = outcome answer.Nothing m
-granted m cs (winner.Dma source) = transferOf m (recordOf cs source) source
-granted m cs (winner.Interrupt source l) = outcome (answer.Interrupt source l (vectorOf m cs source)) (acknowledged m cs source l)
+-- what the winner gets; a DMA request that has won may be refused with 6 or 5, and it alone concerns the memory
+unfoldable pub granted : State → List Channel → Winner → Outcome Answer State
+granted s cs winner.Nobody = outcome answer.Nothing s
+granted s cs (winner.Dma source) = transferOf s (recordOf cs source) source
+granted s cs (winner.Interrupt source l) =
+    let m = s .image in
+    changed s (outcome (answer.Interrupt source l (vectorOf m cs source)) (acknowledged m cs source l))
 
 -- rules 1 and 2, then the winner of rules 3 to 5
-unfoldable pub arbitrateOf : Image → List Channel → Outcome Answer Image
-arbitrateOf m cs =
-    cond (inService m) (outcome answer.Nothing m)
-    (cond (topLevel m) (outcome answer.TopLevel (enteredTop m)) (granted m cs (winnerOf m cs)))
+unfoldable pub arbitrateOf : State → List Channel → Outcome Answer State
+arbitrateOf s cs =
+    let m = s .image in
+    cond (inService m) (outcome answer.Nothing s)
+    (cond (topLevel m) (changed s (outcome answer.TopLevel (enteredTop m))) (granted s cs (winnerOf m cs)))

@@ -12,7 +12,7 @@ use Rattle.rules.specs.declared.Waited.{Waited}
 use Rattle.rules.specs.declared.Bounded.{Bounded}
 use Rattle.rules.specs.declared.Bounded.the-variants as bounded
 use Rattle.rules.specs.Image.{Image, has, inService, CPL, IAM, IEN, TLI, TLNM}
-use Rattle.rules.specs.Outcomes.{State, refusedOr}
+use Rattle.rules.specs.Outcomes.{State, alone, refusedOr}
 use Rattle.rules.specs.Sources.{sources, pending, unmasked, dmaEnabled, level}
 use Rattle.rules.specs.Runs.{Event, history, eventRefused, isArbitration, waitVerdict}
 use Rattle.rules.specs.Demand3.{H, E, Start, isCall, OnlyCalls}
@@ -66,7 +66,7 @@ startPremises m cs ours next = calmPremises m cs (sourcePremises m cs ours next)
 abbrev pub otherStep : Event → Bool
 otherStep e = not (eventRefused e) && not (isCall (e .step))
 
--- an arbitration with interrupts disabled, on the image that it gets (with no DMA enabled none is refused)
+-- an arbitration with interrupts disabled, on the image that it gets (on data that is accepted, with no DMA enabled, none is refused)
 abbrev pub disabledStep : Event → Bool
 disabledStep e = isArbitration (e .step) && not (has (e .before .image) IEN)
 
@@ -88,13 +88,13 @@ boundIn m cs ours es =
 
 -- ---- the bound
 
--- on data that is accepted: the premises on the start, and on the steps, each done on the state that the one before it left
-abbrev pub acceptedBound : State → List Channel → ℕ → List Step → Bounded
-acceptedBound s cs ours xs = startPremises (s .image) cs ours (boundIn (s .image) cs ours (history s cs xs))
+-- on data that is accepted: the premises on the start, and on the steps, each done, without a memory, on the image that the one before it left
+abbrev pub acceptedBound : Image → List Channel → ℕ → List Step → Bounded
+acceptedBound m cs ours xs = startPremises m cs ours (boundIn m cs ours (history (alone m) cs xs))
 
--- refused with 1, then 2, then 4, as a wait report is; then the first premise on the start that fails; then those on the steps; then the bound
-unfoldable pub boundOf : State → List Channel → ℕ → List Step → Bounded
-boundOf s cs ours xs = refusedOr (waitVerdict s cs ours) bounded.Refused (acceptedBound s cs ours xs)
+-- refused with 1, then 2, then 4, as a wait report without a memory is; then the first premise on the start that fails; then those on the steps; then the bound
+unfoldable pub boundOf : Image → List Channel → ℕ → List Step → Bounded
+boundOf m cs ours xs = refusedOr (waitVerdict (alone m) cs ours) bounded.Refused (acceptedBound m cs ours xs)
 
 -- ---- what an answer says
 

@@ -9,7 +9,7 @@ use Rattle.rules.specs.declared.Channel.{Channel}
 use Rattle.rules.specs.declared.Step.{Step}
 use Rattle.rules.specs.declared.Waited.{Waited}
 use Rattle.rules.specs.declared.Waited.the-variants as waited
-use Rattle.rules.specs.Image.{Image}
+use Rattle.rules.specs.Image.{Image, Fits}
 use Rattle.rules.specs.Outcomes.{State}
 use Rattle.rules.specs.Sources.{pending}
 use Rattle.rules.specs.Runs.{Event, acknowledgedIn, runOf, runHistory, waitOf, waitHistory}
@@ -18,46 +18,43 @@ use Rattle.rules.specs.Handlers.{EAndRaised, AllMay, Handles, upTo, InEn
 
 -- ours is in time, by one count of arbitrations or another, and kept, after each of the events; and where it is not acknowledged among them, it is pending in
 -- the image that they leave
-abbrev pub Served : State → List Channel → ℕ → (List Event → Type 0) → List Event → Image → Type 0
-Served s cs ours Timely es after =
-    ((n : ℕ) → Timely (take n es) × Kept s cs ours (take n es)) × (acknowledgedIn ours es ≡ false → pending after cs ours ≡ true)
+abbrev pub Served : Image → List Channel → ℕ → (List Event → Type 0) → List Event → Image → Type 0
+Served m cs ours Timely es after =
+    ((n : ℕ) → Timely (take n es) × Kept m cs ours (take n es)) × (acknowledgedIn ours es ≡ false → pending after cs ours ≡ true)
 
--- what demand 3 says of events es, which are to be from s, and the image `after`, which they are to leave
-abbrev pub Demand3Of : State → List Channel → List Event → Image → Type 0
-Demand3Of s cs es after =
+-- what demand 3 says of events es, which are to be from m, and the image `after`, which they are to leave
+abbrev pub Demand3Of : Image → List Channel → List Event → Image → Type 0
+Demand3Of m cs es after =
     (ours : ℕ)
-    → let m = s .image in
-    Start m cs ours
+    → Start m cs ours
     → OnlyCalls es
-    → Served s cs ours (InTime ours (H m cs ours + E m cs ours es + 1)) es after
+    → Served m cs ours (InTime ours (H m cs ours + E m cs ours es + 1)) es after
 
 -- what Handlers says of them
-abbrev pub HandlersOf : State → List Channel → List Event → Image → Type 0
-HandlersOf s cs es after =
+abbrev pub HandlersOf : Image → List Channel → List Event → Image → Type 0
+HandlersOf m cs es after =
     (ours : ℕ)
-    → let m = s .image in
-    Start m cs ours
+    → Start m cs ours
     → Handles cs ours (upTo ours es)
-    → Served s cs ours (InTime ours (H m cs ours + EAndRaised m cs ours (upTo ours es) + 1)) es after
+    → Served m cs ours (InTime ours (H m cs ours + EAndRaised m cs ours (upTo ours es) + 1)) es after
 
 -- what EnabledHandlers says of them
-abbrev pub EnabledHandlersOf : State → List Channel → List Event → Image → Type 0
-EnabledHandlersOf s cs es after =
+abbrev pub EnabledHandlersOf : Image → List Channel → List Event → Image → Type 0
+EnabledHandlersOf m cs es after =
     (ours : ℕ)
-    → let m = s .image in
-    Start m cs ours
+    → Start m cs ours
     → AllMay cs ours (upTo ours es)
-    → Served s cs ours (InEnabledTime ours (H m cs ours + EAndRaised m cs ours (upTo ours es) + 1)) es after
+    → Served m cs ours (InEnabledTime ours (H m cs ours + EAndRaised m cs ours (upTo ours es) + 1)) es after
 
 -- the three claims
-abbrev pub ClaimsOf : State → List Channel → List Event → Image → Type 0
-ClaimsOf s cs es after = Demand3Of s cs es after × HandlersOf s cs es after × EnabledHandlersOf s cs es after
+abbrev pub ClaimsOf : Image → List Channel → List Event → Image → Type 0
+ClaimsOf m cs es after = Demand3Of m cs es after × HandlersOf m cs es after × EnabledHandlersOf m cs es after
 
 -- ---- a run
 
 -- the claims, of every run that the rules do
 abbrev pub RunsClaimed : Type 0
-RunsClaimed = (s : State) (cs : List Channel) (xs : List Step) → ClaimsOf s cs (runHistory s cs xs) (runOf s cs xs .left .image)
+RunsClaimed = (s : State) (cs : List Channel) (xs : List Step) → ClaimsOf (s .image) cs (runHistory s cs xs) (runOf s cs xs .left .image)
 
 -- ---- a wait report
 
@@ -69,14 +66,15 @@ WaitWithin bound (waited.RefusedAt reason index arbitrations) still = (arbitrati
 WaitWithin bound (waited.Ended arbitrations) still = (arbitrations < bound) × (still ≡ true)
 WaitWithin bound (waited.Acknowledged arbitrations) still = arbitrations ≤ bound
 
--- of a wait report for ours over xs that answers w and leaves `after`: the claims, for every source; and what it answers, by demand 3 and by Handlers
+-- of a wait report for ours over xs that answers w and leaves `after`: the claims, for every source; and, with a memory that isn't refused, what it answers, by
+-- demand 3 and by Handlers
 abbrev pub WaitClaimsOf : State → List Channel → ℕ → List Step → Waited → Image → Type 0
 WaitClaimsOf s cs ours xs w after =
     let m = s .image in
     let es = waitHistory s cs ours xs in
-    ClaimsOf s cs es after
-    × (Start m cs ours → OnlyCalls es → WaitWithin (H m cs ours + E m cs ours es + 1) w (pending after cs ours))
-    × (Start m cs ours → Handles cs ours es → WaitWithin (H m cs ours + EAndRaised m cs ours es + 1) w (pending after cs ours))
+    ClaimsOf m cs es after
+    × (Fits (s .memory) → Start m cs ours → OnlyCalls es → WaitWithin (H m cs ours + E m cs ours es + 1) w (pending after cs ours))
+    × (Fits (s .memory) → Start m cs ours → Handles cs ours es → WaitWithin (H m cs ours + EAndRaised m cs ours es + 1) w (pending after cs ours))
 
 -- that, of every wait report that the rules do
 abbrev pub WaitsClaimed : Type 0

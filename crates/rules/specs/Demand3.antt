@@ -11,10 +11,9 @@ use Rattle.rules.specs.declared.Step.{Step}
 use Rattle.rules.specs.declared.Step.the-variants as step
 use Rattle.rules.specs.Image.{Image, imageLength, has, inService, CPL, IAM, IEN, TLI, TLNM}
 use Rattle.rules.specs.Channels.{listOk}
-use Rattle.rules.specs.Outcomes.{State}
 use Rattle.rules.specs.Sources.{sources, pending, unmasked, dmaEnabled, level}
 use Rattle.rules.specs.Triggers.{selects}
-use Rattle.rules.specs.Runs.{Event, history, stateAfter, eventRefused, oneIf, counted, acknowledgedIn, arbitrationsIn, isArbitration}
+use Rattle.rules.specs.Runs.{Event, Chain, imageAfter, eventRefused, oneIf, counted, acknowledgedIn, arbitrationsIn, isArbitration}
 
 -- ---- the start
 
@@ -53,8 +52,8 @@ abbrev pub Enabled : Event → Type 0
 Enabled e = isArbitration (e .step) ≡ true → has (e .before .image) IEN ≡ true
 
 -- "Then take every list of triggers, arbitrations and returns, refused ones included, with interrupts enabled at each arbitration. A refused one changes
--- nothing and counts nowhere." A refused step may be of any kind, which admits more lists than the sentence. `Enabled` is asked of refused
--- arbitrations too, but only a DMA winner is refused, and under `Calm` there is none
+-- nothing and counts nowhere." A refused step may be of any kind, which admits more lists than the sentence. `Enabled` is asked of refused arbitrations
+-- too: under `Calm` there is no DMA winner, so that only one with a memory over 65,536 bytes is refused
 abbrev pub OnlyCalls : List Event → Type 0
 OnlyCalls [] = Unit {0}
 OnlyCalls (e ∷ es) = (eventRefused e ≡ false → isCall (e .step) ≡ true) × Enabled e × OnlyCalls es
@@ -119,17 +118,17 @@ abbrev pub InTime : ℕ → ℕ → List Event → Type 0
 InTime ours bound es = bound ≤ arbitrationsIn es → acknowledgedIn ours es ≡ true
 
 -- "After every call before its first acknowledgement, and after every call of the list if it is never acknowledged, its pending bit is set."
-abbrev pub Kept : State → List Channel → ℕ → List Event → Type 0
-Kept s cs ours es = acknowledgedIn ours es ≡ false → pending (stateAfter s es .image) cs ours ≡ true
+abbrev pub Kept : Image → List Channel → ℕ → List Event → Type 0
+Kept m cs ours es = acknowledgedIn ours es ≡ false → pending (imageAfter m es) cs ours ≡ true
 
 -- ---- the claim
 
--- for each n, of the first n calls, with E over the whole list: the n that ends with arbitration H + E + 1 gives "at the latest by", each gives "after every call"
+-- of every list of calls, with any memories. For each n, of the first n calls, with E over the whole list: the n that ends with arbitration H + E + 1 gives "at the
+-- latest by", each gives "after every call"
 abbrev pub Demand3 : Type 0
 Demand3 =
-    (s : State) (cs : List Channel) (ours : ℕ) (xs : List Step)
-    → let m = s .image in
-    let es = history s cs xs in
-    Start m cs ours
+    (m : Image) (cs : List Channel) (ours : ℕ) (es : List Event)
+    → Chain m cs es
+    → Start m cs ours
     → OnlyCalls es
-    → (n : ℕ) → InTime ours (H m cs ours + E m cs ours es + 1) (take n es) × Kept s cs ours (take n es)
+    → (n : ℕ) → InTime ours (H m cs ours + E m cs ours es + 1) (take n es) × Kept m cs ours (take n es)

@@ -116,9 +116,10 @@ refusalNumber refusal.Length = 1
 refusalNumber refusal.List = 2
 refusalNumber refusal.Register = 3
 refusalNumber refusal.Number = 4
-refusalNumber refusal.Memory = 5
+refusalNumber refusal.Address = 5
 refusalNumber refusal.Pointer = 6
 refusalNumber refusal.Kind = 7
+refusalNumber refusal.Memory = 8
 
 -- 0 where nothing is refused
 abbrev pub toldVerdict : Verdict → ℕ

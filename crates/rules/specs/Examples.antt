@@ -15,7 +15,7 @@ use Rattle.rules.specs.declared.Answer.{Answer}
 use Rattle.rules.specs.declared.Answer.the-variants as answer
 use Rattle.rules.specs.Image.{Image, imageLength, CICR, MODER, EITR, EIPR, EIMR, EIPLR, EIVR, NICR, MARK}
 use Rattle.rules.specs.Channels.{idcrByte, dcprByte, dataByte}
-use Rattle.rules.specs.Outcomes.{State, state, Outcome, outcome}
+use Rattle.rules.specs.Outcomes.{State, alone, Outcome, outcome}
 use Rattle.rules.specs.Registers.{losses}
 use Rattle.rules.specs.Runs.{Event, history}
 
@@ -52,14 +52,14 @@ pub record Scenario : Type 0 where
 abbrev pub scenario : List Channel → Image → List Line → Scenario
 scenario cs m ls = record { channels = cs; start = m; lines = ls }
 
--- what the rules make of a scenario: the answer and the image after each step
+-- what the rules make of a scenario, without a memory: the answer and the image after each step
 abbrev pub does : Scenario → List (Outcome Answer State)
-does example = map (λ (e : Event). e .outcome) (history (state (example .start)) (example .channels) (map (λ (l : Line). l .step) (example .lines)))
+does example = map (λ (e : Event). e .outcome) (history (alone (example .start)) (example .channels) (map (λ (l : Line). l .step) (example .lines)))
 
 -- the paper's line for each step: its answer, and the image with the bytes that change; where the paper prints only some of these, we filled in the others
 abbrev pub saysFrom : Image → List Line → List (Outcome Answer State)
 saysFrom m [] = []
-saysFrom m (l ∷ ls) = outcome (l .answer) (state (storing m (l .leaves))) ∷ saysFrom (storing m (l .leaves)) ls
+saysFrom m (l ∷ ls) = outcome (l .answer) (alone (storing m (l .leaves))) ∷ saysFrom (storing m (l .leaves)) ls
 
 -- of a scenario
 abbrev pub says : Scenario → List (Outcome Answer State)

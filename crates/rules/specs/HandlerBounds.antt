@@ -14,7 +14,7 @@ use Rattle.rules.specs.declared.Basis.the-variants as basis
 use Rattle.rules.specs.declared.Bounded.{Bounded}
 use Rattle.rules.specs.declared.Bounded.the-variants as bounded
 use Rattle.rules.specs.Image.{Image, has, CPL, IAM, TLI, TLNM}
-use Rattle.rules.specs.Outcomes.{State, refusedOr}
+use Rattle.rules.specs.Outcomes.{State, alone, refusedOr}
 use Rattle.rules.specs.Sources.{sources, pending, unmasked, dmaEnabled, level}
 use Rattle.rules.specs.Runs.{Event, history, eventRefused, waitVerdict}
 use Rattle.rules.specs.Demand3.{H, Start}
@@ -76,12 +76,12 @@ handlerBoundIn m cs ours es = Option·getD (firstBroken cs ours 0 es) (bounding 
 -- ---- the bound
 
 -- on data that is accepted: the premises on the start, as demand 3 has them, and on the steps until ours is acknowledged
-abbrev pub acceptedHandlerBound : State → List Channel → ℕ → List Step → Bounded
-acceptedHandlerBound s cs ours xs = startPremises (s .image) cs ours (handlerBoundIn (s .image) cs ours (upTo ours (history s cs xs)))
+abbrev pub acceptedHandlerBound : Image → List Channel → ℕ → List Step → Bounded
+acceptedHandlerBound m cs ours xs = startPremises m cs ours (handlerBoundIn m cs ours (upTo ours (history (alone m) cs xs)))
 
--- refused with 1, then 2, then 4, as a wait report is; then the first premise on the start that fails; then the first step that breaks one; then the bound
-unfoldable pub handlerBoundOf : State → List Channel → ℕ → List Step → Bounded
-handlerBoundOf s cs ours xs = refusedOr (waitVerdict s cs ours) bounded.Refused (acceptedHandlerBound s cs ours xs)
+-- refused with 1, then 2, then 4, as a wait report without a memory is; then the first premise on the start that fails; then the first step that breaks one; then the bound
+unfoldable pub handlerBoundOf : Image → List Channel → ℕ → List Step → Bounded
+handlerBoundOf m cs ours xs = refusedOr (waitVerdict (alone m) cs ours) bounded.Refused (acceptedHandlerBound m cs ours xs)
 
 -- a bound is answered exactly where the premises hold; it is H + EAndRaised + 1 over the steps until ours is acknowledged
 abbrev pub HandlerBoundSays : State → List Channel → ℕ → List Step → Bounded → Type 0

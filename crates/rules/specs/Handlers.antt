@@ -9,9 +9,8 @@ use Rattle.rules.specs.declared.Channel.{Channel}
 use Rattle.rules.specs.declared.Step.{Step}
 use Rattle.rules.specs.declared.Step.the-variants as step
 use Rattle.rules.specs.Image.{Image, has, CPL, IAM, IEN, TLI, TLNM}
-use Rattle.rules.specs.Outcomes.{State}
 use Rattle.rules.specs.Sources.{sources, pending, unmasked, dmaEnabled, level}
-use Rattle.rules.specs.Runs.{Event, history, until, counted, eventRefused, madeArbitration, eventAcknowledges, acknowledgedIn}
+use Rattle.rules.specs.Runs.{Event, Chain, until, counted, eventRefused, madeArbitration, eventAcknowledges, acknowledgedIn}
 use Rattle.rules.specs.Demand3.{rival, countBelow, H, E, Start, Enabled, InTime, Kept}
 
 -- ---- what a write must not change
@@ -102,12 +101,11 @@ upTo ours es = until (eventAcknowledges ours) es
 -- its pending bit is set until then; EAndRaised is counted over those steps
 abbrev pub Handlers : Type 0
 Handlers =
-    (s : State) (cs : List Channel) (ours : ℕ) (xs : List Step)
-    → let m = s .image in
-    let es = history s cs xs in
-    Start m cs ours
+    (m : Image) (cs : List Channel) (ours : ℕ) (es : List Event)
+    → Chain m cs es
+    → Start m cs ours
     → Handles cs ours (upTo ours es)
-    → (n : ℕ) → InTime ours (H m cs ours + EAndRaised m cs ours (upTo ours es) + 1) (take n es) × Kept s cs ours (take n es)
+    → (n : ℕ) → InTime ours (H m cs ours + EAndRaised m cs ours (upTo ours es) + 1) (take n es) × Kept m cs ours (take n es)
 
 -- ---- without a premise on IEN: with no DMA enabled and the top level disabled an arbitration with interrupts disabled serves nobody, so only the others are counted
 
@@ -122,9 +120,8 @@ InEnabledTime ours bound es = bound ≤ counted enabledArbitration es → acknow
 -- Handlers without `Enabled`, by the arbitrations that get IEN = 1
 abbrev pub EnabledHandlers : Type 0
 EnabledHandlers =
-    (s : State) (cs : List Channel) (ours : ℕ) (xs : List Step)
-    → let m = s .image in
-    let es = history s cs xs in
-    Start m cs ours
+    (m : Image) (cs : List Channel) (ours : ℕ) (es : List Event)
+    → Chain m cs es
+    → Start m cs ours
     → AllMay cs ours (upTo ours es)
-    → (n : ℕ) → InEnabledTime ours (H m cs ours + EAndRaised m cs ours (upTo ours es) + 1) (take n es) × Kept s cs ours (take n es)
+    → (n : ℕ) → InEnabledTime ours (H m cs ours + EAndRaised m cs ours (upTo ours es) + 1) (take n es) × Kept m cs ours (take n es)

@@ -1,10 +1,10 @@
--- Document 01, "The image": where the registers and the mark stand, and the bits that the rules name.
+-- Document 01, "The image": where the registers and the mark stand, and the bits that the rules name; and the memory of document 02, §1.
 -- Assumes nothing.
 use mathlib.Core.Bool.{Bool, not}
 use mathlib.Core.List.{List}
-use Prim.Native.Nat.{ℕ, _+_, _-_, _*_, _/_, _%_}
+use Prim.Native.Nat.{ℕ, _+_, _-_, _*_, _/_, _%_, _≤_}
 use lib.Dec.{eqb}
-use lib.ListN.{getD, set}
+use lib.ListN.{length, getD, set}
 use Rattle.bits.specs.Bits.{bit, putBit}
 
 -- the bytes of an image, in order. No rule asks that they are below 256: what is lent are bytes by their type
@@ -15,8 +15,20 @@ Image = List ℕ
 abbrev pub imageLength : ℕ
 imageLength = 1265
 
--- the byte at a place
-abbrev pub at : Image → ℕ → ℕ
+-- the bytes of a memory, in order: what a DMA channel may fill or empty beside the register file (document 02, §1)
+abbrev pub Memory : Type 0
+Memory = List ℕ
+
+-- a memory has at most 65,536 bytes
+abbrev pub mostMemory : ℕ
+mostMemory = 65536
+
+-- one that has no more is not refused
+abbrev pub Fits : Memory → Type 0
+Fits memory = length memory ≤ mostMemory
+
+-- the byte at a place of an image, or at an address of a memory
+abbrev pub at : List ℕ → ℕ → ℕ
 at m i = getD m i 0
 
 -- byte 240 + 16p + (r - 240) is register r (240 to 255) of page p (0 to 63)

@@ -9,14 +9,20 @@ use Rattle.rules.specs.declared.AnswerKind.the-variants as kind
 use Rattle.rules.specs.declared.Refusal.{Refusal}
 use Rattle.rules.specs.declared.Verdict.{Verdict}
 use Rattle.rules.specs.declared.Verdict.the-variants as verdict
-use Rattle.rules.specs.Image.{Image}
+use mathlib.Core.List.{[]}
+use Rattle.rules.specs.Image.{Image, Memory}
 
--- all that a caller lends to be changed: the image
+-- all that a caller lends to be changed: the image and the memory
 pub record State : Type 0 where
   pub image : Image
+  pub memory : Memory
 
-abbrev pub state : Image → State
-state m = record { image = m }
+abbrev pub state : Image → Memory → State
+state m memory = record { image = m; memory = memory }
+
+-- an image that is lent without a memory
+abbrev pub alone : Image → State
+alone m = state m []
 
 -- what is answered, and what is left: of the image by a rule that concerns the image alone, of all that is lent by a step, a run and a wait report
 pub record Outcome (A L : Type 0) : Type 0 where
@@ -26,9 +32,9 @@ pub record Outcome (A L : Type 0) : Type 0 where
 abbrev pub outcome : {A L : Type 0} → A → L → Outcome A L
 outcome answered left = record { answer = answered; left = left }
 
--- what a rule of the image alone answers and leaves, as a step on the state s: whatever else s has stays, and it has nothing else
+-- what a rule of the image alone answers and leaves, as a step on the state s: the memory stays
 abbrev pub changed : State → Outcome Answer Image → Outcome Answer State
-changed s o = outcome (o .answer) (state (o .left))
+changed s o = outcome (o .answer) (state (o .left) (s .memory))
 
 -- ---- refusals
 

@@ -1,4 +1,4 @@
--- The public promises by name: what a call answers and leaves of the lent image, in the rules' words, for every image, list and argument.
+-- The public promises by name: what a call answers and leaves of the lent image and memory, in the rules' words, for every image, memory, list and argument.
 -- Assumes nothing.
 use mathlib.Core.Path.{_≡_}
 use mathlib.Core.List.{List}
@@ -13,8 +13,8 @@ use Rattle.rules.specs.declared.Ran.{Ran}
 use Rattle.rules.specs.declared.Waited.{Waited}
 use Rattle.rules.specs.declared.Bounded.{Bounded}
 use Rattle.rules.specs.declared.Flat.{Flat}
-use Rattle.rules.specs.Image.{Image}
-use Rattle.rules.specs.Outcomes.{state}
+use Rattle.rules.specs.Image.{Image, Memory, Fits}
+use Rattle.rules.specs.Outcomes.{State, state, alone}
 use Rattle.rules.specs.Registers.{viewOf, viewVerdict}
 use Rattle.rules.specs.Sources.{pending}
 use Rattle.rules.specs.Steps.{stepOf}
@@ -26,82 +26,85 @@ use Rattle.rules.specs.Encodings.{decodeOf, stepsOf, listIn, told, toldV
 
 -- ---- one step
 
--- it answers this and leaves `after`. Two answers with the same numbers are one (proofs/Told), here and below
-abbrev pub Does : Image → List Channel → Step → Answer → Image → Type 0
+-- on what is lent it answers this and leaves `after`. Two answers with the same numbers are one (proofs/Told), here and below
+abbrev pub Does : State → List Channel → Step → Answer → State → Type 0
 Does before cs x answered after =
-    let o = stepOf (state before) cs x in
-    (told answered ≡ told (o .answer)) × (after ≡ o .left .image)
+    let o = stepOf before cs x in
+    (told answered ≡ told (o .answer)) × (after ≡ o .left)
 
 -- a read: the image is lent to be read only, so its type keeps every byte, and the promise has the answer alone
 abbrev pub Reads : Image → List Channel → ℕ → Answer → Type 0
-Reads lent cs r answered = told answered ≡ told (stepOf (state lent) cs (step.Read r) .answer)
+Reads lent cs r answered = told answered ≡ told (stepOf (alone lent) cs (step.Read r) .answer)
 
--- a write of v to register r
+-- a write of v to register r. This, a trigger, a return and a reset take no memory
 abbrev pub Writes : Image → List Channel → ℕ → ℕ → Answer → Image → Type 0
-Writes before cs r v answered after = Does before cs (step.Write r v) answered after
+Writes before cs r v answered after = Does (alone before) cs (step.Write r v) answered (alone after)
 
 -- a trigger
 abbrev pub Triggers : Image → List Channel → Trigger → Answer → Image → Type 0
-Triggers before cs t answered after = Does before cs (step.Trigger t) answered after
+Triggers before cs t answered after = Does (alone before) cs (step.Trigger t) answered (alone after)
 
 -- an arbitration
-abbrev pub Arbitrates : Image → List Channel → Answer → Image → Type 0
+abbrev pub Arbitrates : State → List Channel → Answer → State → Type 0
 Arbitrates before cs answered after = Does before cs step.Arbitrate answered after
 
 -- a return
 abbrev pub Returns : Image → List Channel → Answer → Image → Type 0
-Returns before cs answered after = Does before cs step.Return answered after
+Returns before cs answered after = Does (alone before) cs step.Return answered (alone after)
 
 -- a reset
 abbrev pub Resets : Image → List Channel → Answer → Image → Type 0
-Resets before cs answered after = Does before cs step.Reset answered after
+Resets before cs answered after = Does (alone before) cs step.Reset answered (alone after)
 
 -- the step that a word stands for
-abbrev pub DoesWord : Image → List Channel → ℕ → Answer → Image → Type 0
+abbrev pub DoesWord : State → List Channel → ℕ → Answer → State → Type 0
 DoesWord before cs word answered after = Does before cs (decodeOf word) answered after
 
 -- ---- runs and wait reports
 
 -- a run of a list of words
-abbrev pub Runs : Image → List Channel → List ℕ → Ran → Image → Type 0
+abbrev pub Runs : State → List Channel → List ℕ → Ran → State → Type 0
 Runs before cs words answered after =
-    let o = runOf (state before) cs (stepsOf words) in
-    (toldRun answered ≡ toldRun (o .answer)) × (after ≡ o .left .image)
+    let o = runOf before cs (stepsOf words) in
+    (toldRun answered ≡ toldRun (o .answer)) × (after ≡ o .left)
 
 -- that, and what demand 3, Handlers and EnabledHandlers say of the steps that it did
-abbrev pub RunClaims : Image → List Channel → List ℕ → Ran → Image → Type 0
+abbrev pub RunClaims : State → List Channel → List ℕ → Ran → State → Type 0
 RunClaims before cs words answered after =
-    Runs before cs words answered after × ClaimsOf (state before) cs (runHistory (state before) cs (stepsOf words)) after
+    Runs before cs words answered after × ClaimsOf (before .image) cs (runHistory before cs (stepsOf words)) (after .image)
 
 -- a wait report for a source over a list of words
-abbrev pub Waits : Image → List Channel → ℕ → List ℕ → Waited → Image → Type 0
+abbrev pub Waits : State → List Channel → ℕ → List ℕ → Waited → State → Type 0
 Waits before cs source words answered after =
-    let o = waitOf (state before) cs source (stepsOf words) in
-    (toldWait answered ≡ toldWait (o .answer)) × (after ≡ o .left .image)
+    let o = waitOf before cs source (stepsOf words) in
+    (toldWait answered ≡ toldWait (o .answer)) × (after ≡ o .left)
 
 -- that, and what demand 3, Handlers and EnabledHandlers say of the steps that it did, and the first two of its answer
-abbrev pub WaitClaims : Image → List Channel → ℕ → List ℕ → Waited → Image → Type 0
+abbrev pub WaitClaims : State → List Channel → ℕ → List ℕ → Waited → State → Type 0
 WaitClaims before cs source words answered after =
-    Waits before cs source words answered after × WaitClaimsOf (state before) cs source (stepsOf words) answered after
+    Waits before cs source words answered after × WaitClaimsOf before cs source (stepsOf words) answered (after .image)
 
--- ---- the bounds; the image is only read
+-- ---- the bounds; the image is only read, and no memory is lent, since under their premises none matters
 
 -- demand 3's bound for a source over a list of words
 abbrev pub Bounds : Image → List Channel → ℕ → List ℕ → Bounded → Type 0
-Bounds lent cs source words answered = toldBound answered ≡ toldBound (boundOf (state lent) cs source (stepsOf words))
+Bounds lent cs source words answered = toldBound answered ≡ toldBound (boundOf lent cs source (stepsOf words))
 
--- that, and that a bound is answered exactly where the premises hold
+-- that, and that a bound is answered exactly where the premises hold, whatever memory that fits the list of steps gets
 abbrev pub BoundClaims : Image → List Channel → ℕ → List ℕ → Bounded → Type 0
-BoundClaims lent cs source words answered = Bounds lent cs source words answered × BoundSays (state lent) cs source (stepsOf words) answered
+BoundClaims lent cs source words answered =
+    Bounds lent cs source words answered
+    × ((memory : Memory) → Fits memory → BoundSays (state lent memory) cs source (stepsOf words) answered)
 
 -- the bound of Handlers for a source over a list of words
 abbrev pub HandlerBounds : Image → List Channel → ℕ → List ℕ → Bounded → Type 0
-HandlerBounds lent cs source words answered = toldBound answered ≡ toldBound (handlerBoundOf (state lent) cs source (stepsOf words))
+HandlerBounds lent cs source words answered = toldBound answered ≡ toldBound (handlerBoundOf lent cs source (stepsOf words))
 
--- that, and that a bound is answered exactly where the premises hold
+-- that, and that a bound is answered exactly where the premises hold, whatever memory that fits the list of steps gets
 abbrev pub HandlerBoundClaims : Image → List Channel → ℕ → List ℕ → Bounded → Type 0
 HandlerBoundClaims lent cs source words answered =
-    HandlerBounds lent cs source words answered × HandlerBoundSays (state lent) cs source (stepsOf words) answered
+    HandlerBounds lent cs source words answered
+    × ((memory : Memory) → Fits memory → HandlerBoundSays (state lent memory) cs source (stepsOf words) answered)
 
 -- ---- the view
 
@@ -119,13 +122,13 @@ ViewRefuses lent p answered = toldVerdict answered ≡ toldVerdict (viewVerdict 
 abbrev pub Tells : {A : Type 0} → (A → Flat) → (A → Type 0) → Flat → Type 0
 Tells {A} tells Promise numbers = (answered : A) × (numbers ≡ tells answered) × Promise answered
 
-abbrev pub TellsStep : Image → List ℕ → ℕ → Flat → Image → Type 0
+abbrev pub TellsStep : State → List ℕ → ℕ → Flat → State → Type 0
 TellsStep before bytes word numbers after = Tells told (λ answered. DoesWord before (listIn bytes) word answered after) numbers
 
-abbrev pub TellsRun : Image → List ℕ → List ℕ → Flat → Image → Type 0
+abbrev pub TellsRun : State → List ℕ → List ℕ → Flat → State → Type 0
 TellsRun before bytes words numbers after = Tells toldRun (λ answered. RunClaims before (listIn bytes) words answered after) numbers
 
-abbrev pub TellsWait : Image → List ℕ → ℕ → List ℕ → Flat → Image → Type 0
+abbrev pub TellsWait : State → List ℕ → ℕ → List ℕ → Flat → State → Type 0
 TellsWait before bytes source words numbers after = Tells toldWait (λ answered. WaitClaims before (listIn bytes) source words answered after) numbers
 
 abbrev pub TellsBound : Image → List ℕ → ℕ → List ℕ → Flat → Type 0
@@ -136,17 +139,17 @@ TellsHandlerBound lent bytes source words numbers = Tells toldBound (λ answered
 
 -- ---- what the promises of two calls on the same image, list, source and words imply
 
--- a wait report is within demand 3's bound
+-- a wait report is within demand 3's bound, with whatever memory that fits
 abbrev pub BoundWaits : Type 0
 BoundWaits =
-    (m : Image) (cs : List Channel) (source : ℕ) (words : List ℕ) (b : Bounded) (w : Waited) (after : Image)
-    → Bounds m cs source words b → Waits m cs source words w after → WaitInBound b w (pending after cs source)
+    (s : State) (cs : List Channel) (source : ℕ) (words : List ℕ) (b : Bounded) (w : Waited) (after : State)
+    → Fits (s .memory) → Bounds (s .image) cs source words b → Waits s cs source words w after → WaitInBound b w (pending (after .image) cs source)
 
 -- and within that of Handlers
 abbrev pub HandlerBoundWaits : Type 0
 HandlerBoundWaits =
-    (m : Image) (cs : List Channel) (source : ℕ) (words : List ℕ) (b : Bounded) (w : Waited) (after : Image)
-    → HandlerBounds m cs source words b → Waits m cs source words w after → WaitInBound b w (pending after cs source)
+    (s : State) (cs : List Channel) (source : ℕ) (words : List ℕ) (b : Bounded) (w : Waited) (after : State)
+    → Fits (s .memory) → HandlerBounds (s .image) cs source words b → Waits s cs source words w after → WaitInBound b w (pending (after .image) cs source)
 
 -- where demand 3's bound is answered that of Handlers is too, with the same H, and it is no larger
 abbrev pub HandlerBoundNotAbove : Type 0

@@ -2,6 +2,7 @@
 -- Assumes nothing.
 use mathlib.Core.Bool.{Bool, true, false, cond, not, _&&_, _||_}
 use mathlib.Core.List.{List, [], _∷_}
+use mathlib.Core.Path.{_≡_}
 use Prim.Native.Nat.{ℕ, _+_}
 use lib.Dec.{ltb}
 use Rattle.rules.specs.declared.Channel.{Channel}
@@ -16,6 +17,7 @@ use Rattle.rules.specs.declared.Ran.{Ran}
 use Rattle.rules.specs.declared.Ran.the-variants as ran
 use Rattle.rules.specs.declared.Waited.{Waited}
 use Rattle.rules.specs.declared.Waited.the-variants as waited
+use Rattle.rules.specs.Image.{Image}
 use Rattle.rules.specs.Outcomes.{State, Outcome, outcome, refusedUnless, refusedOr, verdictOf, isRefused, acknowledges}
 use Rattle.rules.specs.Sources.{sources}
 use Rattle.rules.specs.Steps.{lentVerdict, stepOf}
@@ -41,6 +43,16 @@ history s cs (x ∷ xs) = let o = stepOf s cs x in eventOf s x o ∷ history (o 
 unfoldable pub stateAfter : State → List Event → State
 stateAfter s [] = s
 stateAfter s (e ∷ es) = stateAfter (e .outcome .left) es
+
+-- calls made one by one, from the image m on: each gets the image that the one before it left, and the same channel list; the memory may be another for each
+abbrev pub Chain : Image → List Channel → List Event → Type 0
+Chain m cs [] = Unit {0}
+Chain m cs (e ∷ es) = (e .before .image ≡ m) × (e .outcome ≡ stepOf (e .before) cs (e .step)) × Chain (e .outcome .left .image) cs es
+
+-- the image after the last of them
+unfoldable pub imageAfter : Image → List Event → Image
+imageAfter m [] = m
+imageAfter m (e ∷ es) = imageAfter (e .outcome .left .image) es
 
 -- one of the events passes a test
 unfoldable pub anyEvent : (Event → Bool) → List Event → Bool
@@ -86,7 +98,7 @@ runAnswer es =
     let last = lastAnswer answer.NoStep es in
     refusedOr (verdictOf last) (λ reason. ran.RefusedAt reason (stepsDone es)) (ran.Done (stepsDone es) last)
 
--- a run: refused before any step with 1, then 2; else the steps one after another, each with its own refusals (Steps `actOf`)
+-- a run: refused before any step with 1, then 2, then 8; else the steps one after another, each with its own refusals (Steps `actOf`)
 unfoldable pub runOf : State → List Channel → List Step → Outcome Ran State
 runOf s cs xs =
     let es = runEvents s cs xs in
@@ -136,12 +148,12 @@ waitAnswer source es =
     refusedOr (verdictOf last) (λ reason. waited.RefusedAt reason (stepsDone es) (arbitrationsIn es))
     (cond (acknowledges source last) (waited.Acknowledged (arbitrationsIn es)) (waited.Ended (arbitrationsIn es)))
 
--- refused before any step with 1, then 2, then with 4 where there is no such source
+-- refused before any step with 1, then 2, then 8, then with 4 where there is no such source
 unfoldable pub waitVerdict : State → List Channel → ℕ → Verdict
 waitVerdict s cs source =
     refusedOr (lentVerdict s cs) verdict.Refused (refusedUnless (ltb source (sources cs)) refusal.Number verdict.Accepted)
 
--- the wait report for a source: refused before any step with 1, then 2, then 4; else the steps, each with its own refusals, until one acknowledges it
+-- the wait report for a source: refused before any step with 1, then 2, then 8, then 4; else the steps, each with its own refusals, until one acknowledges it
 unfoldable pub waitOf : State → List Channel → ℕ → List Step → Outcome Waited State
 waitOf s cs source xs =
     let es = waitEvents s cs source xs in

@@ -3,6 +3,9 @@
 // The bytes of an image.
 pub const IMAGE_LENGTH: usize = 1265;
 
+// The most bytes of a memory.
+pub const MOST_MEMORY: usize = 65536;
+
 // The most records of a channel list.
 pub const MOST_RECORDS: usize = 12;
 
@@ -62,11 +65,14 @@ pub const IM: u8 = 3;
 // The sources before the records: the external channels.
 pub const EXTERNALS: usize = 8;
 
-// The last register that a DMA pointer may name.
+// The last register that a DMA pointer into the register file may name.
 pub const LAST_REGISTER: usize = 223;
 
+// The last pair that a DMA pointer may name where the transfer is with the memory.
+pub const LAST_PAIR: usize = 222;
+
 // A channel record: its page, the registers there of its IDCR, IVR, DCPR, DAPR and data (`io`), and the direction of its transfers
-// (0: peripheral to register file, 1: the reverse).
+// (0: peripheral to register file or memory, 1: the reverse).
 pub struct Channel {
     pub page: u8,
     pub idcr: u8,
@@ -89,16 +95,17 @@ pub enum Place {
     Unmodelled,
 }
 
-// The reasons for a refusal, numbers 1 to 7 of document 01 in order: the image's length, the list, a register or viewed page, a pin, direction, record or
-// source number, memory, a pointer over R223, an unknown kind.
+// The reasons for a refusal, numbers 1 to 8 of documents 01 and 02 in order: the image's length, the list, a register or viewed page, a pin, direction, record
+// or source number, a memory address, a pointer over R223, an unknown kind, the memory's length.
 pub enum Refusal {
     Length,
     List,
     Register,
     Number,
-    Memory,
+    Address,
     Pointer,
     Kind,
+    Memory,
 }
 
 // Whether what is lent, or what is asked for, is accepted.

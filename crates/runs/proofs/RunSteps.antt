@@ -18,9 +18,9 @@ use Rattle.rules.specs.declared.Ran.the-variants as ran
 use Rattle.rules.specs.declared.Waited.{Waited}
 use Rattle.rules.specs.declared.Waited.the-variants as waited
 use Rattle.rules.specs.declared.Flat.{Flat}
-use Rattle.rules.specs.Image.{Image, imageLength}
+use Rattle.rules.specs.Image.{imageLength, Fits}
 use Rattle.rules.specs.Channels.{listOk}
-use Rattle.rules.specs.Outcomes.{State, state, Outcome, outcome, refusedOr, verdictOf, isRefused, acknowledges}
+use Rattle.rules.specs.Outcomes.{State, Outcome, outcome, refusedOr, verdictOf, isRefused, acknowledges}
 use Rattle.rules.specs.Sources.{sources}
 use Rattle.rules.specs.Steps.{actOf, stepOf}
 use Rattle.rules.specs.Runs.{Event, eventOf, history, stateAfter, oneIf, counted, until, runEvents, lastAnswer, stepsDone, runAnswer, runOf, isArbitration, arbitrationsIn, waitEvents, waitAnswer, waitOf}
@@ -47,10 +47,11 @@ pub stop-starts : (s : State) (cs : List Channel) (ws : List ℕ) → stopOf s c
 unfolding stopOf stopFrom
 stop-starts s cs ws = rw zero-add
 
-pub wait-starts : (s : State) (cs : List Channel) (source : ℕ) (xs : List Step) → length (s .image) ≡ imageLength → listOk cs ≡ true → source < sources cs
+pub wait-starts : (s : State) (cs : List Channel) (source : ℕ) (xs : List Step)
+    → length (s .image) ≡ imageLength → listOk cs ≡ true → Fits (s .memory) → source < sources cs
     → waitOf s cs source xs ≡ waitFrom source s 0 0 answer.NoStep (waitEvents s cs source xs)
 unfolding waitOf waitAnswer waitFrom
-wait-starts s cs source xs l ok h = rw (wait-accepted s cs source (lent-accepted s cs l ok) h, zero-add, zero-add)
+wait-starts s cs source xs l ok k h = rw (wait-accepted s cs source (lent-accepted s cs l ok k) h, zero-add, zero-add)
 
 -- ---- no step left
 
@@ -125,13 +126,13 @@ module _ {s t : State} {cs : List Channel} {ys xs : List Step} {x : Step} {a : A
 
 -- ---- by where a list stopped
 
-module _ (s t : State) (cs : List Channel) (l : length (s .image) ≡ imageLength) (ok : listOk cs ≡ true) where
+module _ (s t : State) (cs : List Channel) (l : length (s .image) ≡ imageLength) (ok : listOk cs ≡ true) (k : Fits (s .memory)) where
   -- what a run answers
   pub run-stopped : (ws : List ℕ) (n : ℕ) (a : Answer) {v : Verdict} → verdictOf a ≡ v → outcome (stopped n a) t ≡ stopOf s cs ws
       → outcome (refusedOr v (λ r. ran.RefusedAt r n) (ran.Done n a)) t ≡ runOf s cs (stepsOf ws)
   unfolding stopOf runOf runAnswer
   run-stopped ws n a v e =
-      rw (← v) (ap (λ (o : Outcome Stopped State). outcome (runBy (o .answer .steps) (o .answer .last)) (o .left)) e ∙ sym (rw (lent-accepted s cs l ok)))
+      rw (← v) (ap (λ (o : Outcome Stopped State). outcome (runBy (o .answer .steps) (o .answer .last)) (o .left)) e ∙ sym (rw (lent-accepted s cs l ok k)))
     where
       runBy : ℕ → Answer → Ran
       runBy k b = refusedOr (verdictOf b) (λ r. ran.RefusedAt r k) (ran.Done k b)
@@ -141,13 +142,13 @@ module _ (s t : State) (cs : List Channel) (l : length (s .image) ≡ imageLengt
   unfolding stopOf history until lastAnswer stateAfter stepsOf
   step-stopped w n a e =
       ap (λ (o : Outcome Stopped State). outcome (o .answer .last) (o .left)) e
-      ∙ rw (cond-none (isRefused (stepOf s cs (decodeOf w) .answer))) (accepted-acts s cs (decodeOf w) l ok)
+      ∙ rw (cond-none (isRefused (stepOf s cs (decodeOf w) .answer))) (accepted-acts s cs (decodeOf w) l ok k)
 
 -- what the step that a word stands for does, said of the step as code has it
 pub as-decoded : (s : State) (cs : List Channel) {x y : Step} {o : Outcome Answer State} → x ≡ y → o ≡ actOf s cs y → o ≡ actOf s cs x
 as-decoded s cs e d = rw e d
 
--- an outcome is promised by the numbers of its answer and the image that it leaves
-pub promised : {A : Type 0} (tells : A → Flat) {a : A} {after : Image} {o : Outcome A State} → outcome a (state after) ≡ o
-    → (tells a ≡ tells (o .answer)) × (after ≡ o .left .image)
-promised {A} tells e = (ap (λ (o : Outcome A State). tells (o .answer)) e, ap (λ (o : Outcome A State). o .left .image) e)
+-- an outcome is promised by the numbers of its answer and what it leaves
+pub promised : {A : Type 0} (tells : A → Flat) {a : A} {after : State} {o : Outcome A State} → outcome a after ≡ o
+    → (tells a ≡ tells (o .answer)) × (after ≡ o .left)
+promised {A} tells e = (ap (λ (o : Outcome A State). tells (o .answer)) e, ap (λ (o : Outcome A State). o .left) e)

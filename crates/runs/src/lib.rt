@@ -1,4 +1,4 @@
-// Lists of steps on an image and a list that are accepted: runs, single steps and wait reports.
+// Lists of steps on an image, a memory and a list that are accepted: runs, single steps and wait reports.
 use channels::MASKS;
 use channels::PLACES;
 use dispatch::acknowledged;
@@ -13,11 +13,11 @@ use rules::Verdict;
 use rules::Waited;
 ghost use mathlib.Core.Path.{_≡_};
 ghost use Rattle.rules.specs.Channels.{listOf};
-ghost use Rattle.rules.specs.Outcomes.{state, outcome};
+ghost use Rattle.rules.specs.Outcomes.{state, alone, outcome};
 ghost use Rattle.rules.specs.Steps.{actOf};
 ghost use Rattle.rules.specs.Encodings.{decodeOf};
 ghost use Rattle.rules.specs.Promises.{Runs, Waits};
-ghost use Rattle.channels.specs.Laid.{AcceptedLaid, AcceptedLaidSource};
+ghost use Rattle.channels.specs.Laid.{AcceptedLaid, LentLaid, LentLaidSource};
 ghost use Rattle.runs.specs.Stops.{stopOf};
 
 // Where a list of steps stopped: how many were done, and the last answer, which is a refusal where that stopped it.
@@ -30,18 +30,19 @@ struct Stopped {
 // the compiler puts the steps' code into the loop.
 fn steps_of(
     image: &mut [u8],
+    memory: &mut [u8],
     all: Channels,
     masks: &[u8; MASKS],
     places: &[u16; PLACES],
     words: &[u64],
 ) -> Stopped
-    requires { ⌜ AcceptedLaid (now image) (listOf all) (now masks) (now places) ⌝ }
-    ensures { λ s. ⌜ outcome s (state (now (image .exit))) ≡ stopOf (state (now (image .entry))) (listOf all) (now (words .entry)) ⌝ }
+    requires { ⌜ LentLaid (state (now image) (now memory)) (listOf all) (now masks) (now places) ⌝ }
+    ensures { λ s. ⌜ outcome s (state (now (image .exit)) (now (memory .exit))) ≡ stopOf (state (now (image .entry)) (now (memory .entry))) (listOf all) (now (words .entry)) ⌝ }
 {
     let mut steps: usize = 0;
     let mut last = Answer::NoStep;
     while steps < words.len() {
-        let a = act(image, all, masks, places, decode(words[steps]));
+        let a = act(image, memory, all, masks, places, decode(words[steps]));
         match verdict_of(a) {
             Verdict::Accepted => {
                 last = a;
@@ -58,31 +59,48 @@ fn steps_of(
 // The step that a word stands for: a list of it alone.
 pub fn perform(
     image: &mut [u8],
+    memory: &mut [u8],
+    all: Channels,
+    masks: &[u8; MASKS],
+    places: &[u16; PLACES],
+    word: u64,
+) -> Answer
+    requires { ⌜ LentLaid (state (now image) (now memory)) (listOf all) (now masks) (now places) ⌝ }
+    ensures { λ a. ⌜ outcome a (state (now (image .exit)) (now (memory .exit))) ≡ actOf (state (now (image .entry)) (now (memory .entry))) (listOf all) (decodeOf word) ⌝ }
+{
+    let words = [word];
+    let stopped = steps_of(image, memory, all, masks, places, &words);
+    stopped.last
+}
+
+// The same without a memory.
+pub fn perform_alone(
+    image: &mut [u8],
     all: Channels,
     masks: &[u8; MASKS],
     places: &[u16; PLACES],
     word: u64,
 ) -> Answer
     requires { ⌜ AcceptedLaid (now image) (listOf all) (now masks) (now places) ⌝ }
-    ensures { λ a. ⌜ outcome a (state (now (image .exit))) ≡ actOf (state (now (image .entry))) (listOf all) (decodeOf word) ⌝ }
+    ensures { λ a. ⌜ outcome a (alone (now (image .exit))) ≡ actOf (alone (now (image .entry))) (listOf all) (decodeOf word) ⌝ }
 {
-    let words = [word];
-    let stopped = steps_of(image, all, masks, places, &words);
-    stopped.last
+    let mut none: [u8; 0] = [0; 0];
+    perform(image, &mut none, all, masks, places, word)
 }
 
 // A run.
 pub fn run_accepted(
     image: &mut [u8],
+    memory: &mut [u8],
     all: Channels,
     masks: &[u8; MASKS],
     places: &[u16; PLACES],
     words: &[u64],
 ) -> Ran
-    requires { ⌜ AcceptedLaid (now image) (listOf all) (now masks) (now places) ⌝ }
-    ensures { λ r. ⌜ Runs (now (image .entry)) (listOf all) (now (words .entry)) r (now (image .exit)) ⌝ }
+    requires { ⌜ LentLaid (state (now image) (now memory)) (listOf all) (now masks) (now places) ⌝ }
+    ensures { λ r. ⌜ Runs (state (now (image .entry)) (now (memory .entry))) (listOf all) (now (words .entry)) r (state (now (image .exit)) (now (memory .exit))) ⌝ }
 {
-    let stopped = steps_of(image, all, masks, places, words);
+    let stopped = steps_of(image, memory, all, masks, places, words);
     let last = stopped.last;
     match verdict_of(last) {
         Verdict::Accepted => Ran::Done {
@@ -99,20 +117,21 @@ pub fn run_accepted(
 // The same up to the acknowledgement of a source, if there is one; every arbitration is counted that isn't refused.
 pub fn wait_accepted(
     image: &mut [u8],
+    memory: &mut [u8],
     all: Channels,
     masks: &[u8; MASKS],
     places: &[u16; PLACES],
     source: u32,
     words: &[u64],
 ) -> Waited
-    requires { ⌜ AcceptedLaidSource (now image) (listOf all) (now masks) (now places) source ⌝ }
-    ensures { λ w. ⌜ Waits (now (image .entry)) (listOf all) source (now (words .entry)) w (now (image .exit)) ⌝ }
+    requires { ⌜ LentLaidSource (state (now image) (now memory)) (listOf all) (now masks) (now places) source ⌝ }
+    ensures { λ w. ⌜ Waits (state (now (image .entry)) (now (memory .entry))) (listOf all) source (now (words .entry)) w (state (now (image .exit)) (now (memory .exit))) ⌝ }
 {
     let mut done: usize = 0;
     let mut made: usize = 0;
     while done < words.len() {
         let word = words[done];
-        let a = perform(image, all, masks, places, word);
+        let a = perform(image, memory, all, masks, places, word);
         match verdict_of(a) {
             Verdict::Accepted => {
                 done += 1;

@@ -7,35 +7,47 @@ use answers::verdict_number;
 use lent::unpacked;
 use rules::Flat;
 ghost use mathlib.Core.Path.{_≡_};
+ghost use Rattle.rules.specs.Outcomes.{state};
 ghost use Rattle.rules.specs.Registers.{viewVerdict};
 ghost use Rattle.rules.specs.Encodings.{toldVerdict};
 ghost use Rattle.rules.specs.Promises.{TellsStep, TellsRun, TellsWait, TellsBound, TellsHandlerBound};
 
 // One step, given as a word.
 #[no_mangle]
-pub extern "C" fn st9_step(image: &mut [u8], channels: &[u8], word: u64) -> Flat
-    ensures { λ f. ⌜ TellsStep (now (image .entry)) (now (channels .entry)) word f (now (image .exit)) ⌝ }
+pub extern "C" fn st9_step(image: &mut [u8], channels: &[u8], memory: &mut [u8], word: u64) -> Flat
+    ensures { λ f. ⌜ TellsStep (state (now (image .entry)) (now (memory .entry))) (now (channels .entry)) word f (state (now (image .exit)) (now (memory .exit))) ⌝ }
 {
     let all = unpacked(channels);
-    of_step(machine::perform(image, all, word))
+    of_step(machine::perform(image, all, memory, word))
 }
 
 // A run of steps given as words; and what demand 3 and the handlers' claim say of it.
 #[no_mangle]
-pub extern "C" fn st9_run(image: &mut [u8], channels: &[u8], words: &[u64]) -> Flat
-    ensures { λ f. ⌜ TellsRun (now (image .entry)) (now (channels .entry)) (now (words .entry)) f (now (image .exit)) ⌝ }
+pub extern "C" fn st9_run(
+    image: &mut [u8],
+    channels: &[u8],
+    memory: &mut [u8],
+    words: &[u64],
+) -> Flat
+    ensures { λ f. ⌜ TellsRun (state (now (image .entry)) (now (memory .entry))) (now (channels .entry)) (now (words .entry)) f (state (now (image .exit)) (now (memory .exit))) ⌝ }
 {
     let all = unpacked(channels);
-    of_run(machine::run(image, all, words))
+    of_run(machine::run(image, all, memory, words))
 }
 
 // The wait report for a source over steps given as words; and what demand 3 and the handlers' claim say of it.
 #[no_mangle]
-pub extern "C" fn st9_wait(image: &mut [u8], channels: &[u8], source: u32, words: &[u64]) -> Flat
-    ensures { λ f. ⌜ TellsWait (now (image .entry)) (now (channels .entry)) source (now (words .entry)) f (now (image .exit)) ⌝ }
+pub extern "C" fn st9_wait(
+    image: &mut [u8],
+    channels: &[u8],
+    memory: &mut [u8],
+    source: u32,
+    words: &[u64],
+) -> Flat
+    ensures { λ f. ⌜ TellsWait (state (now (image .entry)) (now (memory .entry))) (now (channels .entry)) source (now (words .entry)) f (state (now (image .exit)) (now (memory .exit))) ⌝ }
 {
     let all = unpacked(channels);
-    of_wait(machine::wait(image, all, source, words))
+    of_wait(machine::wait(image, all, memory, source, words))
 }
 
 // Demand 3's bound for a source over steps given as words; and what it says.

@@ -1,4 +1,4 @@
-// The public library. Each function takes the image and the channel list as they are lent, whatever they are, and answers for them: a bad one is refused with
+// The public library. Each function takes the image, the channel list and the memory as they are lent, whatever they are, and answers for them: a bad one is refused with
 // document 01's number and every byte stays. The same for C is in `exports`.
 mod exports;
 
@@ -10,6 +10,7 @@ use rules::Ran;
 use rules::Trigger;
 use rules::Verdict;
 use rules::Waited;
+ghost use Rattle.rules.specs.Outcomes.{state};
 ghost use Rattle.rules.specs.Promises.{Reads, Writes, Triggers, Arbitrates, Returns, Resets, DoesWord, RunClaims, WaitClaims, BoundClaims, HandlerBoundClaims, Views, ViewRefuses};
 
 // Reads a register of the selected page or of the register file.
@@ -37,11 +38,11 @@ pub fn trigger(image: &mut [u8], cs: &[Channel], event: Trigger) -> Answer
 }
 
 // An arbitration.
-pub fn arbitrate(image: &mut [u8], cs: &[Channel]) -> Answer
-    ensures { λ a. ⌜ Arbitrates (now (image .entry)) (now (cs .entry)) a (now (image .exit)) ⌝ }
+pub fn arbitrate(image: &mut [u8], cs: &[Channel], memory: &mut [u8]) -> Answer
+    ensures { λ a. ⌜ Arbitrates (state (now (image .entry)) (now (memory .entry))) (now (cs .entry)) a (state (now (image .exit)) (now (memory .exit))) ⌝ }
 {
     let all = copied(cs);
-    machine::arbitrate(image, all)
+    machine::arbitrate(image, all, memory)
 }
 
 // The return from an interrupt.
@@ -61,27 +62,33 @@ pub fn reset(image: &mut [u8], cs: &[Channel]) -> Answer
 }
 
 // The step that a word stands for.
-pub fn perform(image: &mut [u8], cs: &[Channel], word: u64) -> Answer
-    ensures { λ a. ⌜ DoesWord (now (image .entry)) (now (cs .entry)) word a (now (image .exit)) ⌝ }
+pub fn perform(image: &mut [u8], cs: &[Channel], memory: &mut [u8], word: u64) -> Answer
+    ensures { λ a. ⌜ DoesWord (state (now (image .entry)) (now (memory .entry))) (now (cs .entry)) word a (state (now (image .exit)) (now (memory .exit))) ⌝ }
 {
     let all = copied(cs);
-    machine::perform(image, all, word)
+    machine::perform(image, all, memory, word)
 }
 
 // A run of steps given as words; and what demand 3 and the handlers' claim say of it.
-pub fn run(image: &mut [u8], cs: &[Channel], words: &[u64]) -> Ran
-    ensures { λ r. ⌜ RunClaims (now (image .entry)) (now (cs .entry)) (now (words .entry)) r (now (image .exit)) ⌝ }
+pub fn run(image: &mut [u8], cs: &[Channel], memory: &mut [u8], words: &[u64]) -> Ran
+    ensures { λ r. ⌜ RunClaims (state (now (image .entry)) (now (memory .entry))) (now (cs .entry)) (now (words .entry)) r (state (now (image .exit)) (now (memory .exit))) ⌝ }
 {
     let all = copied(cs);
-    machine::run(image, all, words)
+    machine::run(image, all, memory, words)
 }
 
 // The wait report for a source over steps given as words; and what demand 3 and the handlers' claim say of it.
-pub fn wait(image: &mut [u8], cs: &[Channel], source: u32, words: &[u64]) -> Waited
-    ensures { λ w. ⌜ WaitClaims (now (image .entry)) (now (cs .entry)) source (now (words .entry)) w (now (image .exit)) ⌝ }
+pub fn wait(
+    image: &mut [u8],
+    cs: &[Channel],
+    memory: &mut [u8],
+    source: u32,
+    words: &[u64],
+) -> Waited
+    ensures { λ w. ⌜ WaitClaims (state (now (image .entry)) (now (memory .entry))) (now (cs .entry)) source (now (words .entry)) w (state (now (image .exit)) (now (memory .exit))) ⌝ }
 {
     let all = copied(cs);
-    machine::wait(image, all, source, words)
+    machine::wait(image, all, memory, source, words)
 }
 
 // Demand 3's bound for a source over steps given as words: H, E and H + E + 1 where its premises hold, else the first that fails; and that a bound is answered exactly where they hold.

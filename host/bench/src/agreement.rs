@@ -1,5 +1,5 @@
-//! The strong program against the proved library, so that what is measured is one job: answers, refusals, and every byte of the images. The plain model is
-//! compared in `host/differential`.
+//! The strong program against the proved library, so that what is measured is one job: answers, refusals, and every byte of the images and memories. The
+//! plain model is compared in `host/differential`.
 
 use crate::sides::{proved_run, proved_step, strong_run, strong_step};
 use crate::{check, SITUATIONS};
@@ -27,9 +27,12 @@ fn runs() {
         let count = random.below(STEPS) as usize;
         let words = start.steps(&mut random, flavour, count);
         let (mut image, mut other) = (start.image.clone(), start.image);
-        let proved = proved_run(&mut image, &start.list, &words);
-        assert_eq!(strong_run(&mut other, &start.list, &words), proved, "run {number}");
+        let (mut memory, mut other_memory) = (start.memory.clone(), start.memory);
+        let proved = proved_run(&mut image, &start.list, &mut memory, &words);
+        let strong = strong_run(&mut other, &start.list, &mut other_memory, &words);
+        assert_eq!(strong, proved, "run {number}");
         assert_eq!(other, image, "run {number}");
+        assert!(other_memory == memory, "run {number}");
         tally.count(proved);
     }
     tally.assert_all_met();
@@ -45,11 +48,13 @@ fn single_steps() {
         let count = random.below(STEPS) as usize;
         let words = start.steps(&mut random, flavour, count);
         let (mut image, mut other) = (start.image.clone(), start.image);
+        let (mut memory, mut other_memory) = (start.memory.clone(), start.memory);
         for word in words {
-            let proved = proved_step(&mut image, &start.list, word);
-            let strong = strong_step(&mut other, &start.list, word);
+            let proved = proved_step(&mut image, &start.list, &mut memory, word);
+            let strong = strong_step(&mut other, &start.list, &mut other_memory, word);
             assert_eq!(strong, proved, "start {number}, word {word:016X}");
             assert_eq!(other, image, "start {number}, word {word:016X}");
+            assert!(other_memory == memory, "start {number}, word {word:016X}");
             tally.count(proved);
         }
     }
@@ -69,8 +74,9 @@ fn lists() {
         let byte = random.byte();
         list[place] = random.pick(&[0, 1, 63, 64, 239, 240, 255, byte]);
         let mut image = [0; IMAGE_LENGTH];
-        let proved = proved_step(&mut image, &list, word::arbitrate());
-        assert_eq!(strong_step(&mut image, &list, word::arbitrate()), proved, "{list:?}");
+        let proved = proved_step(&mut image, &list, &mut [], word::arbitrate());
+        let strong = strong_step(&mut image, &list, &mut [], word::arbitrate());
+        assert_eq!(strong, proved, "{list:?}");
         refused += usize::from(proved.kind == sys::REFUSED);
     }
     assert!((STARTS / 4..STARTS).contains(&refused), "{refused}");

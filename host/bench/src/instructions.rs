@@ -9,6 +9,9 @@ use std::env;
 use std::hint::black_box;
 use std::process::{Command, Stdio};
 
+/// The steps of a longer trace that are counted: callgrind takes its time.
+const MOST_STEPS: usize = 30_000;
+
 /// The argument with which the program calls itself; a situation's number, a side's name and a number of steps follow.
 pub const COUNTED: &str = "counted";
 
@@ -20,7 +23,7 @@ pub fn report(traces: &[Trace]) {
     }
     println!("{}", heads("instructions a step"));
     for (number, trace) in traces.iter().enumerate() {
-        let steps = trace.words.len();
+        let steps = trace.words.len().min(MOST_STEPS);
         let counts = Side::ALL.map(|side| {
             let difference = count(number, side, steps) - count(number, side, 0);
             format!("{:10.0}", difference as f64 / steps as f64)
@@ -58,7 +61,7 @@ pub fn perform(situation: &str, side: &str, steps: &str) {
     let side = Side::ALL.into_iter().find(|one| one.name() == side).expect("a side's name");
     let steps = steps.parse().expect("a number of steps");
     let trace = SITUATIONS[number]();
-    let mut image = black_box(trace.image.clone());
-    side.perform(&trace, &mut image, steps);
-    black_box(image);
+    let mut lent = black_box(trace.lent.clone());
+    side.perform(&trace, &mut lent, steps);
+    black_box(lent);
 }

@@ -1,8 +1,8 @@
 //! The proved library beside two plain Rust programs of the same job: the model of `host/model`, written from the papers, and `strong`, written for speed.
 //!
 //! Two tables with a row for each situation: instructions a step, counted by callgrind where `valgrind` is on the PATH, and steps a second. Before
-//! anything is measured all three do every situation, and their answers and the images they leave are compared: a difference ends the program. Nothing
-//! is asserted about counts or times. In `host/`, about 40 seconds for both tables:
+//! anything is measured all three do every situation, and their answers and the images and memories they leave are compared: a difference ends the program. Nothing
+//! is asserted about counts or times. In `host/`, about a minute for both tables:
 //!
 //! ```text
 //! cargo run --release --offline -p bench
@@ -60,16 +60,17 @@ fn report(instructions: bool, times: bool) {
     }
 }
 
-/// Panics unless all sides do all the steps, answer the same and leave the same image.
+/// Panics unless all sides do all the steps, answer the same and leave the same image and memory.
 fn check(trace: &Trace) {
-    let [(proved, image), others @ ..] = Side::ALL.map(|side| {
-        let mut image = trace.image.clone();
-        (side.answers(trace, &mut image), image)
+    let [(proved, left), others @ ..] = Side::ALL.map(|side| {
+        let mut lent = trace.lent.clone();
+        (side.answers(trace, &mut lent), lent)
     });
     assert!(proved.iter().all(|answer| answer.refusal == 0), "{}", trace.name);
-    for (other, other_image) in others {
+    for (other, other_left) in others {
         assert_eq!(other, proved, "{}", trace.name);
-        assert_eq!(other_image, image, "{}", trace.name);
+        assert_eq!(other_left.image, left.image, "{}", trace.name);
+        assert!(other_left.memory == left.memory, "{}", trace.name);
     }
 }
 

@@ -41,7 +41,7 @@ impl Shift {
 
     /// Adds a step, which must not be refused.
     fn add(&mut self, word: u64) -> Answer {
-        let answer = model::step(&mut self.image, &self.channels, word);
+        let answer = model::step(&mut self.image, &self.channels, &mut [], word);
         assert!(!matches!(answer, Answer::Refused(_)));
         self.words.push(word);
         answer

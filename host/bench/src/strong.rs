@@ -16,7 +16,7 @@ mod transfer;
 mod triggers;
 
 use arbitration::{arbitrate, return_from};
-use model::{Answer, Effect, Ran, Refusal};
+use model::{Answer, Effect, Ran, Refusal, MOST_MEMORY};
 use registers::{locate, reset, store};
 use st9::IMAGE_LENGTH;
 use tables::Tables;
@@ -27,24 +27,35 @@ type Image = [u8; IMAGE_LENGTH];
 
 /// One step.
 #[inline(never)]
-pub fn step(image: &mut [u8], list: &[u8], word: u64) -> Result<Answer, Refusal> {
+pub fn step(
+    image: &mut [u8],
+    list: &[u8],
+    memory: &mut [u8],
+    word: u64,
+) -> Result<Answer, Refusal> {
     let Ok(image) = <&mut Image>::try_from(image) else { return Err(Refusal::BadLength) };
     let mut tables = Tables::none();
     let Some(()) = tables.lay_out(list) else { return Err(Refusal::BadList) };
-    perform(image, &tables, word)
+    if memory.len() > MOST_MEMORY {
+        return Err(Refusal::BadMemory);
+    }
+    perform(image, &tables, memory, word)
 }
 
 /// The steps in order, up to the first that is refused.
 #[inline(never)]
-pub fn run(image: &mut [u8], list: &[u8], words: &[u64]) -> Ran {
+pub fn run(image: &mut [u8], list: &[u8], memory: &mut [u8], words: &[u64]) -> Ran {
     let Ok(image) = <&mut Image>::try_from(image) else {
         return Ran::RefusedCall(Refusal::BadLength);
     };
     let mut tables = Tables::none();
     let Some(()) = tables.lay_out(list) else { return Ran::RefusedCall(Refusal::BadList) };
+    if memory.len() > MOST_MEMORY {
+        return Ran::RefusedCall(Refusal::BadMemory);
+    }
     let mut last = None;
     for (index, word) in words.iter().enumerate() {
-        match perform(image, &tables, *word) {
+        match perform(image, &tables, memory, *word) {
             Ok(answer) => last = Some(answer),
             Err(refusal) => return Ran::RefusedStep { refusal, index },
         }
@@ -57,7 +68,12 @@ pub fn run(image: &mut [u8], list: &[u8], words: &[u64]) -> Ran {
 
 /// Performs the step of a word: kind * 2^48 + trigger * 2^32 + first * 2^8 + second. A refused one changes nothing.
 #[inline(always)]
-fn perform(image: &mut Image, tables: &Tables, word: u64) -> Result<Answer, Refusal> {
+fn perform(
+    image: &mut Image,
+    tables: &Tables,
+    memory: &mut [u8],
+    word: u64,
+) -> Result<Answer, Refusal> {
     match word >> 48 {
         0 => {
             let (byte, exists) = locate(image, tables, first(word))?;
@@ -77,7 +93,7 @@ fn perform(image: &mut Image, tables: &Tables, word: u64) -> Result<Answer, Refu
             3 => Ok(maskable(request(image, tables, first(word))?)),
             _ => Err(Refusal::UnknownKind),
         },
-        3 => arbitrate(image, tables),
+        3 => arbitrate(image, tables, memory),
         4 => {
             return_from(image);
             Ok(Answer::Returned)

@@ -19,11 +19,18 @@ pub enum Calls {
     Single,
 }
 
+/// What is lent beside the channel list, and changed by the steps.
+#[derive(Clone)]
+pub struct Lent {
+    pub image: Vec<u8>,
+    pub memory: Vec<u8>,
+}
+
 /// A start and the steps from it.
 pub struct Trace {
     pub name: &'static str,
     pub note: String,
-    pub image: Vec<u8>,
+    pub lent: Lent,
     pub channels: Vec<Channel>,
     /// The bytes of the channels.
     pub list: Vec<u8>,
@@ -31,8 +38,8 @@ pub struct Trace {
     pub calls: Calls,
 }
 
-/// The rows of the tables.
-pub const SITUATIONS: [fn() -> Trace; 12] = [
+/// The rows of the tables. The last two are the same but for the memory, and compared.
+pub const SITUATIONS: [fn() -> Trace; 14] = [
     nothing_requests,
     all_masked,
     one_masked,
@@ -45,6 +52,8 @@ pub const SITUATIONS: [fn() -> Trace; 12] = [
     single_arbitration,
     single_arbitration_without_records,
     single_read_without_records,
+    transfers_of_registers,
+    transfers_of_memory,
 ];
 
 /// Twelve records, four pages with three each.
@@ -82,11 +91,12 @@ pub fn quiet_image(channels: &[Channel]) -> Vec<u8> {
     image_with(channels, idcr::IM | 6)
 }
 
-/// A run with the twelve records.
+/// A run with the twelve records and no memory.
 fn run(name: &'static str, note: &str, image: Vec<u8>, words: Vec<u64>) -> Trace {
     let channels = channels();
     let list = generate::bytes(&channels);
-    Trace { name, note: note.to_string(), image, channels, list, words, calls: Calls::Run }
+    let lent = Lent { image, memory: Vec::new() };
+    Trace { name, note: note.to_string(), lent, channels, list, words, calls: Calls::Run }
 }
 
 /// A trigger, the arbitration that acknowledges its source, and the return, which sets IEN again.
@@ -188,7 +198,7 @@ fn single(name: &'static str, channels: Vec<Channel>, word: u64) -> Trace {
     Trace {
         name,
         note: "single calls, nothing requests".to_string(),
-        image: quiet_image(&channels),
+        lent: Lent { image: quiet_image(&channels), memory: Vec::new() },
         list: generate::bytes(&channels),
         channels,
         words: vec![word; SINGLE_STEPS],
@@ -206,4 +216,37 @@ fn single_arbitration_without_records() -> Trace {
 
 fn single_read_without_records() -> Trace {
     single("one call: read of R20, no record", Vec::new(), word::read(20))
+}
+
+/// The transfers of a trace of them, and how many are done before R16 and R17 are written again.
+const TRANSFERS: usize = 1_000_000;
+const ROUND: usize = 125;
+
+/// The record of those traces, the last whose direction is 0, into the register file or the memory.
+const MOVING: u32 = 10;
+
+/// Requests of a record and arbitrations that serve it, a transfer each. R16 and R17 are its pair in the register file, so that the address must go back
+/// before it is over 223; with memory they are its counter, and the address, which goes round by itself, is R18 and R19. Neither counter comes to 0, so
+/// that DM stays set: the steps are the same, and so is the image but for DCPR.
+fn transfers(name: &'static str, note: &str, dcpr: u8, memory: Vec<u8>) -> Trace {
+    let moving = channels()[MOVING as usize];
+    let mut image = quiet_image(&channels());
+    let pointers = [(moving.idcr, idcr::DM | 6), (moving.dcpr, dcpr), (moving.dapr, 18)];
+    for (register, byte) in pointers.into_iter().chain([(moving.data, 0x5A)]) {
+        image[paged(moving.page, register)] = byte;
+    }
+    let mut round = vec![word::write(16, 32), word::write(17, 200)];
+    round.extend([word::request(MOVING), word::arbitrate()].repeat(ROUND));
+    let trace = run(name, note, image, round.repeat(TRANSFERS / ROUND));
+    Trace { lent: Lent { memory, ..trace.lent }, ..trace }
+}
+
+fn transfers_of_registers() -> Trace {
+    let note = "[write R16, write R17, 125 times [request 10, arbitrate]] 8,000 times, DMA of that record at level 6 into R32 and on";
+    transfers("a million transfers, register file", note, 17, Vec::new())
+}
+
+fn transfers_of_memory() -> Trace {
+    let note = "the same steps, its DCPR even: into a memory of 65,536 bytes, round and round";
+    transfers("a million transfers, memory", note, 16, vec![0; st9::MOST_MEMORY])
 }

@@ -1,8 +1,11 @@
 //! Answers in words and as objects.
 
 use crate::account::target;
+use crate::lent::Lent;
+use crate::memory::address;
 use crate::names::{Names, Place};
 use crate::pending::{Bit, Pending};
+use crate::transfer;
 use crate::why::Around;
 use crate::{Object, Operation, StepLine};
 use st9::text::hex;
@@ -17,10 +20,10 @@ pub struct Report<'a> {
     pub step: StepLine,
     /// What the model answered.
     pub answer: Result<Answer, Refusal>,
-    /// The image before it.
-    pub before: &'a [u8],
-    /// The image after it.
-    pub after: &'a [u8],
+    /// Image and memory before it.
+    pub before: &'a Lent,
+    /// Image and memory after it.
+    pub after: &'a Lent,
     /// The channel list.
     pub channels: &'a [Channel],
     /// Names of one's own.
@@ -38,11 +41,18 @@ impl Report<'_> {
     pub fn words(&self) -> String {
         let words = match self.answer {
             Ok(answer) => self.answer_words(answer),
-            Err(refusal) => refusal.with_number(),
+            Err(refusal) => self.refused_words(refusal),
         };
         match self.destination() {
             Some(destination) => format!("{words} ({destination})"),
             None => words,
+        }
+    }
+
+    fn refused_words(&self, refusal: Refusal) -> String {
+        match transfer::refused(refusal, self.before, self.channels, self.names) {
+            Some(why) => format!("{} ({why})", refusal.with_number()),
+            None => refusal.with_number(),
         }
     }
 
@@ -65,13 +75,35 @@ impl Report<'_> {
             }
             Answer::Transferred { source, ended } => {
                 let end = if ended { ", block ended" } else { "" };
-                format!("DMA of {}: one byte moved{end}", self.names.told(source))
+                let place = self.memory_words().unwrap_or_default();
+                format!("DMA of {}: one byte moved{place}{end}", self.names.told(source))
             }
             Answer::Returned => format!("returned ({})", self.around().returned()),
             Answer::Reset => match self.erased_names() {
                 erased if erased.is_empty() => "reset".to_string(),
                 erased => format!("reset (erases {erased})"),
             },
+        }
+    }
+
+    /// The byte of the memory that a transfer moved; none where it is one of the register file.
+    pub(crate) fn memory_address(&self) -> Option<usize> {
+        transfer::memory_address(&self.before.image, self.served()?)
+    }
+
+    /// ` to memory 0005h`, or `from` where the byte goes to the peripheral.
+    fn memory_words(&self) -> Option<String> {
+        let way = if self.served()?.direction == 0 { "to" } else { "from" };
+        Some(format!(" {way} memory {}", address(self.memory_address()?)))
+    }
+
+    /// The record that DMA served.
+    fn served(&self) -> Option<&Channel> {
+        match self.answer {
+            Ok(Answer::Transferred { source, .. }) => {
+                self.channels.get(source.0.checked_sub(8)? as usize)
+            }
+            _ => None,
         }
     }
 
@@ -120,8 +152,8 @@ impl Report<'_> {
     }
 
     fn fallen(&self) -> Pending {
-        let before = Pending::of(self.before, self.channels);
-        before.without(Pending::of(self.after, self.channels))
+        let before = Pending::of(&self.before.image, self.channels);
+        before.without(Pending::of(&self.after.image, self.channels))
     }
 
     /// What a trigger did to its maskable bit and to TLIP. One that has no maskable bit selects none.
@@ -171,7 +203,8 @@ impl Report<'_> {
 
     /// The byte that a read or a write goes to.
     fn place(&self) -> Option<Place> {
-        let page = self.before.get(usize::from(register::PPR)).copied().unwrap_or_default() >> 2;
+        let ppr = self.before.image.get(usize::from(register::PPR));
+        let page = ppr.copied().unwrap_or_default() >> 2;
         match self.meaning() {
             Step::Read { register } | Step::Write { register, .. } => {
                 u8::try_from(register).ok().map(|number| Place::of(page, number))
@@ -182,7 +215,7 @@ impl Report<'_> {
 
     fn around(&self) -> Around<'_> {
         let Report { before, after, channels, names, .. } = *self;
-        Around { before, after, channels, names }
+        Around { before: &before.image, after: &after.image, channels, names }
     }
 
     fn meaning(&self) -> Step {
@@ -240,7 +273,8 @@ impl Report<'_> {
             Answer::Transferred { source, ended } => object
                 .text("answer", "transferred")
                 .source(source, self.names)
-                .truth("ended", ended),
+                .truth("ended", ended)
+                .optional("memory", self.memory_address().map(|address| address as u64)),
             Answer::Returned => object.text("answer", "returned"),
             Answer::Reset => object.text("answer", "reset"),
         }

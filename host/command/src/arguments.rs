@@ -21,7 +21,7 @@ pub struct Run {
     pub json: bool,
     pub quiet: bool,
     pub verbose: bool,
-    pub save: Option<OsString>,
+    pub save: Save,
     pub fail_on: Vec<Loss>,
 }
 
@@ -36,9 +36,15 @@ pub struct Wait {
     /// By name or number; names of one's own are the scenario's.
     pub source: Option<OsString>,
     pub json: bool,
-    pub save: Option<OsString>,
+    pub save: Save,
     pub fail_on_never: bool,
     pub within: Option<u64>,
+}
+
+/// Where image and memory are saved.
+pub struct Save {
+    pub image: Option<OsString>,
+    pub memory: Option<OsString>,
 }
 
 pub struct Show {
@@ -63,14 +69,16 @@ pub fn command(words: &[OsString]) -> Result<Command, Failure> {
         "run" | "test" | "wait" | "show" if help_wanted => {
             Ok(Command::Help(help::USAGE.to_string()))
         }
-        "run" => {
-            run(Options::read(rest, &["--json", "--quiet", "--verbose"], &["--save", "--fail-on"])?)
-        }
+        "run" => run(Options::read(
+            rest,
+            &["--json", "--quiet", "--verbose"],
+            &["--save", "--save-memory", "--fail-on"],
+        )?),
         "test" => test(Options::read(rest, &["--json"], &["--fail-on"])?),
         "wait" => wait(Options::read(
             rest,
             &["--json"],
-            &["--source", "--save", "--fail-on", "--within"],
+            &["--source", "--save", "--save-memory", "--fail-on", "--within"],
         )?),
         "show" => show(Options::read(rest, &["--json"], &["--page"])?),
         _ => Err(usage(&format!(
@@ -108,12 +116,17 @@ fn run(mut options: Options) -> Result<Command, Failure> {
     }))
 }
 
-fn save(options: &mut Options) -> Result<Option<OsString>, Failure> {
-    let save = options.value("--save");
-    match save.as_deref() == Some(OsStr::new("-")) {
-        true => Err(usage("'-' is no file to save to: expected a file's name")),
-        false => Ok(save),
+fn save(options: &mut Options) -> Result<Save, Failure> {
+    let save = Save { image: options.value("--save"), memory: options.value("--save-memory") };
+    let none = Some(OsStr::new("-"));
+    if save.image.as_deref() == none || save.memory.as_deref() == none {
+        return Err(usage("'-' is no file to save to: expected a file's name"));
     }
+    if let (Some(name), true) = (&save.image, save.image == save.memory) {
+        let found = format!("--save and --save-memory {}", shown(name));
+        return Err(usage(&format!("{found}: expected two files")));
+    }
+    Ok(save)
 }
 
 /// The losses of `--fail-on`, each once.
@@ -147,8 +160,9 @@ fn test(mut options: Options) -> Result<Command, Failure> {
 fn wait(mut options: Options) -> Result<Command, Failure> {
     let source = options.value("--source");
     let save = save(&mut options)?;
-    if save.is_some() && source.is_none() {
-        return Err(usage("--save without a source: expected --source with it"));
+    let named = [("--save", save.image.is_some()), ("--save-memory", save.memory.is_some())];
+    if let (Some((option, _)), None) = (named.iter().find(|(_, given)| *given), &source) {
+        return Err(usage(&format!("{option} without a source: expected --source with it")));
     }
     let fail_on_never = match options.value("--fail-on") {
         None => false,

@@ -2,6 +2,8 @@
 
 use crate::answers::Report;
 use crate::bounds::{bound_json, Bounds, Claim, Claimed, List};
+use crate::lent::Lent;
+use crate::notes::transfer_note;
 use crate::{Call, Case, Object};
 use st9::text::counted;
 use st9::text::hex;
@@ -10,16 +12,29 @@ use st9::{Answer, Bound, Channel, Done, Refusal, RunError, Source, Step, Wait, W
 /// A model of the part: the proved one, or another to compare it with.
 pub trait Model {
     /// Does one step.
-    fn step(&self, image: &mut [u8], channels: &[Channel], step: Step) -> Result<Answer, Refusal>;
+    fn step(
+        &self,
+        image: &mut [u8],
+        channels: &[Channel],
+        memory: &mut [u8],
+        step: Step,
+    ) -> Result<Answer, Refusal>;
 
     /// Does steps one after another.
-    fn run(&self, image: &mut [u8], channels: &[Channel], words: &[u64]) -> Result<Done, RunError>;
+    fn run(
+        &self,
+        image: &mut [u8],
+        channels: &[Channel],
+        memory: &mut [u8],
+        words: &[u64],
+    ) -> Result<Done, RunError>;
 
     /// The wait report.
     fn wait(
         &self,
         image: &mut [u8],
         channels: &[Channel],
+        memory: &mut [u8],
         source: Source,
         words: &[u64],
     ) -> Result<Wait, WaitError>;
@@ -49,12 +64,12 @@ pub trait Model {
 /// What a call answered.
 #[derive(Clone, Debug, PartialEq, Eq)]
 pub enum CallAnswer {
-    /// Of a run, with the image before its last step.
+    /// Of a run, with image and memory before its last step.
     Run {
         /// The answer.
         done: Result<Done, RunError>,
-        /// The image before the last step that was done.
-        before_last: Vec<u8>,
+        /// Image and memory before the last step that was done.
+        before_last: Lent,
     },
     /// Of a wait.
     Wait(Result<Wait, WaitError>),
@@ -88,43 +103,47 @@ pub struct CallReport<'a> {
     pub from: usize,
     /// What the model answered.
     pub answer: CallAnswer,
-    /// The image before it.
-    pub before: &'a [u8],
+    /// Image and memory before it.
+    pub before: &'a Lent,
     /// The copy after it.
-    pub after: Vec<u8>,
+    pub after: Lent,
     /// The case.
     pub case: &'a Case,
 }
 
 impl<'a> CallReport<'a> {
-    /// Makes the call on a copy of the image, over the words of the steps that follow.
+    /// Makes the call on a copy of image and memory, over the words of the steps that follow.
     pub fn of(
         model: &impl Model,
         made: Made,
         words: &[u64],
-        before: &'a [u8],
+        before: &'a Lent,
         case: &'a Case,
     ) -> CallReport<'a> {
         let Made { call, line, from } = made;
-        let mut after = before.to_vec();
+        let mut after = before.clone();
+        let Lent { image, memory } = &mut after;
         let channels = &case.channels;
         let answer = match call {
             Call::Run => {
-                let done = model.run(&mut after, channels, words);
-                let mut before_last = before.to_vec();
+                let done = model.run(image, channels, memory, words);
+                let mut before_last = before.clone();
                 if let Ok(Done { steps: steps @ 1.., .. }) = done {
-                    let _ = model.run(&mut before_last, channels, &words[..steps - 1]);
+                    let Lent { image, memory } = &mut before_last;
+                    let _ = model.run(image, channels, memory, &words[..steps - 1]);
                 }
                 CallAnswer::Run { done, before_last }
             }
-            Call::Wait(source) => CallAnswer::Wait(model.wait(&mut after, channels, source, words)),
+            Call::Wait(source) => {
+                CallAnswer::Wait(model.wait(image, channels, memory, source, words))
+            }
             Call::Bound(source) => {
-                CallAnswer::Bound(Bounds::of(model, &after, channels, source, words))
+                CallAnswer::Bound(Bounds::of(model, image, channels, source, words))
             }
             Call::HandlerBound(source) => {
-                CallAnswer::HandlerBound(model.handler_bound(&after, channels, source, words))
+                CallAnswer::HandlerBound(model.handler_bound(image, channels, source, words))
             }
-            Call::View(page) => CallAnswer::View(model.view(&after, page).map(<[u8]>::to_vec)),
+            Call::View(page) => CallAnswer::View(model.view(image, page).map(<[u8]>::to_vec)),
         };
         CallReport { call, line, from, answer, before, after, case }
     }
@@ -176,7 +195,9 @@ impl<'a> CallReport<'a> {
     pub fn words(&self) -> String {
         match &self.answer {
             CallAnswer::Run { done, .. } => self.run_words(done),
-            CallAnswer::Wait(waited) => waited_words(*waited, self.case, self.from),
+            CallAnswer::Wait(waited) => {
+                waited_words(*waited, self.case, self.from, Some(&self.after))
+            }
             CallAnswer::Bound(Ok(bounds)) => bounds.explained(self.list()),
             CallAnswer::HandlerBound(Ok(bound)) => {
                 Claimed { claim: Claim::Handlers, bound: *bound }.explained(self.list())
@@ -206,7 +227,7 @@ impl<'a> CallReport<'a> {
             }
             Err(RunError::Call(refusal)) => refused_before(*refusal),
             Err(RunError::Step { refusal, index }) => {
-                refused_at(*refusal, self.case, self.from + index, "")
+                refused_at(*refusal, self.case, self.from + index, "", Some(&self.after))
             }
         }
     }
@@ -292,14 +313,28 @@ fn refused_before(refusal: Refusal) -> String {
     format!("{}, before any step", refusal.with_number())
 }
 
-/// A refusal at a step of a list: `refused with 3 at step 2 (line 4; meaning)`.
-fn refused_at(refusal: Refusal, case: &Case, index: usize, more: &str) -> String {
-    let line = case.line_of(index);
-    format!("refused with {} at step {index}{more} (line {line}: {refusal})", refusal.number())
+/// A refusal at a step of a list: `refused with 3 at step 2 (line 4: meaning)`; of a transfer with its address or
+/// pointer, which stand in what the steps before left, where that is given.
+fn refused_at(
+    refusal: Refusal,
+    case: &Case,
+    index: usize,
+    more: &str,
+    left: Option<&Lent>,
+) -> String {
+    let (line, number) = (case.line_of(index), refusal.number());
+    let why = left.and_then(|left| transfer_note(refusal, case, left));
+    let why = why.map_or(String::new(), |why| format!(" ({why})"));
+    format!("refused with {number} at step {index}{more} (line {line}: {refusal}){why}")
 }
 
-/// A wait report in words, over the steps of a case from one on.
-pub fn waited_words(waited: Result<Wait, WaitError>, case: &Case, from: usize) -> String {
+/// A wait report in words, over the steps of a case from one on; with what it left also why a transfer was refused.
+pub fn waited_words(
+    waited: Result<Wait, WaitError>,
+    case: &Case,
+    from: usize,
+    left: Option<&Lent>,
+) -> String {
     match waited {
         Ok(Wait::Acknowledged { arbitrations }) => {
             let place = case
@@ -314,7 +349,7 @@ pub fn waited_words(waited: Result<Wait, WaitError>, case: &Case, from: usize) -
         Err(WaitError::Call(refusal)) => refused_before(refusal),
         Err(WaitError::Step { refusal, index, arbitrations }) => {
             let made = format!(", after {}", counted(arbitrations, "arbitration"));
-            refused_at(refusal, case, from + index, &made)
+            refused_at(refusal, case, from + index, &made, left)
         }
     }
 }

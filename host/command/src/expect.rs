@@ -1,15 +1,15 @@
 //! The words after `expect`.
 
 use crate::doubt::two_digits;
-use crate::expectation::{Expect, Expected, RefusedAt};
+use crate::expectation::{Expect, Expected, RefusedAt, Where};
 use crate::names::{Names, Place};
 use crate::number::{number, number_32};
-use crate::parse::{self, expected, Arguments, Problem, BYTE};
+use crate::parse::{self, expected, Arguments, Problem, ADDRESS, BYTE};
 use crate::pending::Bit;
 use crate::quote::printable;
 use st9::{Basis, Effect, Premise, Refusal, Source};
 
-const EXPECTATIONS: &str = "an answer as the command prints it, changed, or a register";
+const EXPECTATIONS: &str = "an answer as the command prints it, changed, memory, or a register";
 const SOURCE: &str = "a source as INTB1, CH0, channel 0 or a name of your own";
 const BIT: &str = "TLIP, or a source as INTB1, CH0, channel 0 or a name of your own";
 const COUNT: &str = "a number";
@@ -120,6 +120,7 @@ impl Reader<'_> {
             b"never" => Ok(Expected::Never { arbitrations: None }),
             b"not" => self.not(),
             b"bytes" => self.page(),
+            b"memory" => self.memory(),
             b"changed" => self.changed(),
             _ => {
                 self.words.0 = whole;
@@ -353,13 +354,21 @@ impl Reader<'_> {
         Ok(Expected::Interrupt { source, level, vector })
     }
 
-    /// `DMA of channel 0: one byte moved, block ended`.
+    /// `DMA of channel 0: one byte moved to memory 0005h, block ended`.
     fn transferred(&mut self) -> Result<Expected, Problem> {
         self.taken("of");
         let source = self.source()?;
         self.all_taken(&["one", "byte", "moved"]);
+        let memory = self.all_taken(&["to", "memory"]) || self.all_taken(&["from", "memory"]);
+        let memory = memory.then(|| self.words.take(ADDRESS, parse::address)).transpose()?;
         let ended = self.taken("block") && (self.taken("ended") || self.words.0.is_empty());
-        Ok(Expected::Transferred { source, ended })
+        Ok(Expected::Transferred { source, ended, memory })
+    }
+
+    /// `memory 0005h 41h 42h`.
+    fn memory(&mut self) -> Result<Expected, Problem> {
+        let address = self.words.take(ADDRESS, parse::address)?;
+        Ok(Expected::Memory { address, bytes: parse::some_bytes(&mut self.words)? })
     }
 
     /// `refused with 3 at step 1 after 2 arbitrations`, `refused with 4 before any step`.
@@ -406,6 +415,7 @@ impl Reader<'_> {
             | Expected::Fails { .. }
             | Expected::Page(_)
             | Expected::Stored { .. }
+            | Expected::Memory { .. }
             | Expected::Changed(_) => Err(expected(LAST, word)),
             last => Ok(last),
         }
@@ -430,29 +440,65 @@ impl Reader<'_> {
         Ok(Expected::Page(bytes))
     }
 
-    /// `changed nothing`, `changed EIPR 00h -> 10h, CICR 87h`.
+    /// `changed nothing`, `changed EIPR 00h -> 10h, CICR 87h, M0005h 00h -> 5Ah`.
     fn changed(&mut self) -> Result<Expected, Problem> {
-        let mut all: Vec<(Place, Option<u8>, u8)> = Vec::new();
+        const WHAT: &str = "nothing, or registers and addresses with their bytes";
+        let mut all: Vec<ChangedByte> = Vec::new();
         if self.taken("nothing") {
             return Ok(Expected::Changed(all));
         }
         loop {
-            let word = self.words.next("nothing, or registers with their bytes")?;
-            let place = place(word)?;
-            if all.iter().any(|(known, ..)| *known == place) {
-                return Err(expected("each register once", word));
+            let word = self.words.next(WHAT)?;
+            let more = match memory_address(word) {
+                Some(address) => self.changed_memory(address)?,
+                None => vec![self.changed_register(word)?],
+            };
+            if more.iter().any(|(place, ..)| all.iter().any(|(known, ..)| known == place)) {
+                return Err(expected("each byte once", word));
             }
-            let first = self.byte_of(place)?;
-            let second = self.taken("->").then(|| self.byte_of(place)).transpose()?;
-            all.push(match second {
-                Some(after) => (place, Some(first), after),
-                None => (place, None, first),
-            });
+            all.extend(more);
             if self.words.0.is_empty() {
                 all.sort();
                 return Ok(Expected::Changed(all));
             }
         }
+    }
+
+    /// A register's byte, or what it was and is.
+    fn changed_register(&mut self, word: &[u8]) -> Result<ChangedByte, Problem> {
+        let place = place(word)?;
+        let first = self.byte_of(place)?;
+        let second = self.taken("->").then(|| self.byte_of(place)).transpose()?;
+        Ok(match second {
+            Some(after) => (Where::Image(place), Some(first), after),
+            None => (Where::Image(place), None, first),
+        })
+    }
+
+    /// Bytes of the memory that follow one another, or what they were and as many that they are.
+    fn changed_memory(&mut self, address: usize) -> Result<Vec<ChangedByte>, Problem> {
+        let first = self.bytes()?;
+        let places = (address..).map(Where::Memory);
+        if !self.taken("->") {
+            return Ok(places.zip(first).map(|(place, after)| (place, None, after)).collect());
+        }
+        let second = self.bytes()?;
+        if first.len() != second.len() {
+            let problem = format!("{} and {} bytes", first.len(), second.len());
+            return Err(format!("{problem}: expected as many after -> as before it"));
+        }
+        let bytes = first.into_iter().zip(second);
+        Ok(places.zip(bytes).map(|(place, (old, new))| (place, Some(old), new)).collect())
+    }
+
+    /// One byte or more, up to a word that is none.
+    fn bytes(&mut self) -> Result<Vec<u8>, Problem> {
+        let mut bytes = vec![self.words.take(BYTE, parse::byte)?];
+        while let Some(byte) = self.words.0.first().and_then(|word| parse::byte(word)) {
+            self.words.optional();
+            bytes.push(byte);
+        }
+        Ok(bytes)
     }
 
     /// `INTB0 not selected`, or a register and its byte or fields.
@@ -473,6 +519,17 @@ impl Reader<'_> {
         }
         let bits = parse::bits(&mut self.words, place, self.names)?;
         Ok(Expected::Stored { place, bits })
+    }
+}
+
+/// A byte that changed, what it was where that is said, and what it is.
+type ChangedByte = (Where, Option<u8>, u8);
+
+/// An address of the memory as `M0005h`.
+fn memory_address(word: &[u8]) -> Option<usize> {
+    match word {
+        [b'm' | b'M', address @ ..] => parse::address(address),
+        _ => None,
     }
 }
 
@@ -531,6 +588,15 @@ mod tests {
             ("done 2 last none", "done: 2 steps, last answer: none (nothing is pending)"),
             ("never", "not acknowledged"),
             ("changed EIPR 10h CICR 87h", "changed CICR 87h, EIPR.p0 10h"),
+            ("DMA CH0 to memory 5", "DMA of channel 0: one byte moved to memory 0005h"),
+            (
+                "DMA CH0 from memory 5 block ended",
+                "DMA of channel 0: one byte moved from memory 0005h, block ended",
+            ),
+            ("memory 5 5Ah 0", "memory 0005h: 5Ah 00h"),
+            ("changed M5 5Ah R17 1", "changed R17 01h, m0005h 5Ah"),
+            ("changed M5 0 -> 1 M6 0 -> 2", "changed M0005h 00h 00h -> 01h 02h"),
+            ("changed M5 1 M6 2 CICR 87h", "changed M0005h 01h 02h, CICR 87h"),
         ];
         for (short, long) in same {
             let read_short = read(short).expect(short);

@@ -3,6 +3,8 @@
 use crate::calls::{CallAnswer, CallReport};
 use crate::changes::{changes, Change};
 use crate::fields::Bits;
+use crate::lent::Lent;
+use crate::memory::{self, stretches, Stretch};
 use crate::pending::Bit;
 use crate::{Call, Place, Report};
 use st9::text::hex;
@@ -53,6 +55,8 @@ pub enum Expected {
         source: Source,
         /// Whether the block ended.
         ended: bool,
+        /// The byte of the memory that moved, where it is said.
+        memory: Option<usize>,
     },
     /// Of a return.
     Returned,
@@ -111,8 +115,25 @@ pub enum Expected {
         /// What is stored there.
         bits: Bits,
     },
-    /// Exactly the bytes that changed, in the order of the image: the byte before where it is said, and after.
-    Changed(Vec<(Place, Option<u8>, u8)>),
+    /// Bytes of the memory afterwards, from an address on.
+    Memory {
+        /// The address of the first.
+        address: usize,
+        /// What is stored there.
+        bytes: Vec<u8>,
+    },
+    /// Exactly the bytes that changed, those of the image before those of the memory: the byte before where it is said,
+    /// and after.
+    Changed(Vec<(Where, Option<u8>, u8)>),
+}
+
+/// A byte that is lent.
+#[derive(Clone, Copy, Debug, PartialEq, Eq, Hash, PartialOrd, Ord)]
+pub enum Where {
+    /// Of the image.
+    Image(Place),
+    /// Of the memory, by its address.
+    Memory(usize),
 }
 
 /// Where a call is refused.
@@ -132,16 +153,19 @@ pub(crate) enum Came<'a> {
 }
 
 impl Came<'_> {
-    fn images(&self) -> (&[u8], &[u8], &[Channel]) {
+    fn lent(&self) -> (&Lent, &Lent, &[Channel]) {
         match self {
             Came::Step(report) => (report.before, report.after, report.channels),
             Came::Call(report) => (report.before, &report.after, &report.case.channels),
         }
     }
 
-    fn changes(&self) -> Vec<Change> {
-        let (before, after, _) = self.images();
-        changes(before, after)
+    fn changes(&self) -> Changes<'_> {
+        let (before, after, _) = self.lent();
+        Changes {
+            image: changes(&before.image, &after.image),
+            memory: stretches(&before.memory, &after.memory),
+        }
     }
 
     fn words(&self) -> String {
@@ -174,32 +198,84 @@ impl Came<'_> {
     }
 
     /// The bytes that changed though a refusal changes none. A run or a wait that is refused at a step did those before.
-    fn changes_by_refusal(&self) -> Vec<Change> {
+    fn changes_by_refusal(&self) -> Changes<'_> {
         match (self.refusal(), self.refused_at()) {
-            (None, _) | (_, (Some(RefusedAt::Step(_)), _)) => Vec::new(),
+            (None, _) | (_, (Some(RefusedAt::Step(_)), _)) => Changes::default(),
             _ => self.changes(),
         }
+    }
+}
+
+/// The bytes that changed.
+#[derive(Default)]
+struct Changes<'a> {
+    image: Vec<Change>,
+    memory: Vec<Stretch<'a>>,
+}
+
+impl Changes<'_> {
+    fn is_empty(&self) -> bool {
+        self.image.is_empty() && self.memory.is_empty()
+    }
+
+    /// Each with what it was and is, in the order of an expectation.
+    fn all(&self) -> impl Iterator<Item = (Where, u8, u8)> + '_ {
+        let of_image = |change: &Change| (Where::Image(change.place), change.before, change.after);
+        let of_memory = self.memory.iter().flat_map(|stretch| {
+            let bytes = stretch.before.iter().zip(stretch.after);
+            (stretch.address..).zip(bytes).map(|(at, (old, new))| (Where::Memory(at), *old, *new))
+        });
+        self.image.iter().map(of_image).chain(of_memory)
+    }
+
+    /// Whether they are those that are expected, and no others.
+    fn are(&self, expected: &[(Where, Option<u8>, u8)]) -> bool {
+        let mut all = self.all();
+        let same = expected.iter().all(|(place, before, after)| {
+            all.next().is_some_and(|(at, old, new)| {
+                at == *place && before.is_none_or(|before| before == old) && new == *after
+            })
+        });
+        same && all.next().is_none()
+    }
+
+    /// `changed EIPR 00h -> 10h, M0005h 00h -> 5Ah`, as an expectation is written; of a long block the start.
+    fn words(&self) -> String {
+        const MOST: usize = 64;
+        if self.is_empty() {
+            return "changed nothing".to_string();
+        }
+        let one = |change: &Change| {
+            format!("{} {} -> {}", change.place.written(), hex(change.before), hex(change.after))
+        };
+        let mut parts: Vec<_> = self.image.iter().map(one).collect();
+        let mut bytes = 0;
+        for stretch in &self.memory {
+            if bytes < MOST {
+                parts.push(stretch.start(MOST - bytes).written());
+            }
+            bytes += stretch.after.len();
+        }
+        let more = match bytes.saturating_sub(MOST) {
+            0 => String::new(),
+            more => format!(" (and {more} more bytes of the memory)"),
+        };
+        format!("changed {}{more}", parts.join(", "))
     }
 }
 
 impl Expected {
     /// Whether this came.
     pub(crate) fn is_met(&self, came: Came) -> bool {
-        let (_, after, _) = came.images();
+        let (_, after, _) = came.lent();
         match (self, came) {
             (Expected::Stored { place, bits }, _) => {
-                after.get(place.0).is_some_and(|byte| bits.are_in(*byte))
+                after.image.get(place.0).is_some_and(|byte| bits.are_in(*byte))
             }
-            (Expected::Changed(expected), _) => {
-                let changes = came.changes();
-                let same =
-                    |(change, (place, before, after)): (&Change, &(Place, Option<u8>, u8))| {
-                        change.place == *place
-                            && before.is_none_or(|before| change.before == before)
-                            && change.after == *after
-                    };
-                changes.len() == expected.len() && changes.iter().zip(expected).all(same)
+            (Expected::Memory { address, bytes }, _) => {
+                part(&after.memory, *address, bytes.len()) == Some(bytes)
             }
+            (Expected::Changed(expected), _) => came.changes().are(expected),
             (Expected::Refused { .. }, _) => {
                 self.is_refusal(came) && came.changes_by_refusal().is_empty()
             }
@@ -243,9 +319,12 @@ impl Expected {
                 Answer::Interrupt { source: winner, level: its_level, vector: its_vector },
             ) => *source == winner && is_said(*level, its_level) && is_said(*vector, its_vector),
             (
-                Expected::Transferred { source, ended },
+                Expected::Transferred { source, ended, memory },
                 Answer::Transferred { source: winner, ended: block_ended },
-            ) => *source == winner && *ended == block_ended,
+            ) => {
+                let moved = memory.is_none() || *memory == report.memory_address();
+                *source == winner && *ended == block_ended && moved
+            }
             (Expected::Returned, Answer::Returned) | (Expected::Reset, Answer::Reset) => true,
             (Expected::Acknowledged { arbitration: None, step: None }, acknowledged) => {
                 matches!(acknowledged, Answer::Interrupt { .. } | Answer::TopLevel { .. })
@@ -315,9 +394,9 @@ impl Expected {
 
     /// What came, in the words that this expectation is about.
     pub(crate) fn came(&self, came: Came) -> String {
-        let (_, after, channels) = came.images();
+        let (_, after, channels) = came.lent();
         match (self, came) {
-            (Expected::Stored { place, bits }, _) => match after.get(place.0) {
+            (Expected::Stored { place, bits }, _) => match after.image.get(place.0) {
                 Some(byte) if bits.mask == 0xFF => format!("{} {}", place.written(), hex(*byte)),
                 Some(byte) => {
                     let fields = place.role(channels).all_bits(*byte);
@@ -325,10 +404,18 @@ impl Expected {
                 }
                 None => format!("an image without {}", place.written()),
             },
-            (Expected::Changed(_), _) => changed_words(&came.changes()),
+            (Expected::Memory { address, bytes }, _) => {
+                match part(&after.memory, *address, bytes.len()) {
+                    Some(came) => {
+                        format!("memory {} {}", memory::address(*address), memory::bytes(came))
+                    }
+                    None => format!("a memory of {} bytes", after.memory.len()),
+                }
+            }
+            (Expected::Changed(_), _) => came.changes().words(),
             (Expected::Refused { at, .. }, _) => match (came.changes_by_refusal(), at, came) {
                 (changes, _, _) if !changes.is_empty() => {
-                    format!("{}, and {}", came.words(), changed_words(&changes))
+                    format!("{}, and {}", came.words(), changes.words())
                 }
                 (_, Some(_), Came::Step(report)) if report.answer.is_err() => {
                     format!("{}: of a step its number alone is expected", came.words())
@@ -364,13 +451,7 @@ fn triggered(phrases: &[(Option<Bit>, Effect)], effects: &[(Bit, Effect)]) -> bo
     phrases.iter().all(holds) && selected.iter().all(|(bit, _)| named(*bit))
 }
 
-/// `changed EIPR 00h -> 10h, CICR 97h -> 87h`, as an expectation is written.
-fn changed_words(changes: &[Change]) -> String {
-    if changes.is_empty() {
-        return "changed nothing".to_string();
-    }
-    let one = |change: &Change| {
-        format!("{} {} -> {}", change.place.written(), hex(change.before), hex(change.after))
-    };
-    format!("changed {}", changes.iter().map(one).collect::<Vec<_>>().join(", "))
+/// So many bytes of a memory from an address on; none where it does not have them.
+fn part(memory: &[u8], address: usize, length: usize) -> Option<&[u8]> {
+    memory.get(address..address.checked_add(length)?)
 }

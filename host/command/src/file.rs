@@ -3,9 +3,11 @@
 use crate::doubt::{self, Doubt};
 use crate::expectation::{Came, Expect, Expected};
 use crate::fields::Bits;
+use crate::memory::address;
 use crate::names::{Names, Role};
 use crate::parse;
-use crate::statement::{Call, ImageName, Operation, Statement};
+use crate::quote::printable;
+use crate::statement::{Call, ImageName, MemoryName, Operation, Statement};
 use crate::Place;
 use st9::{Channel, Step};
 use std::error::Error;
@@ -31,6 +33,10 @@ pub struct Case {
     pub image: (ImageName, usize),
     /// The bits stored before the start, in the order of the file.
     pub sets: Vec<SetLine>,
+    /// The memory to start with, and the line of its statement; none where it has none.
+    pub memory: Option<(MemoryName, usize)>,
+    /// The bytes stored there before the start, in the order of the file.
+    pub pokes: Vec<PokeLine>,
     /// The channel list.
     pub channels: Vec<Channel>,
     /// The lines of its records.
@@ -50,6 +56,17 @@ pub struct SetLine {
     pub place: Place,
     /// What is stored there.
     pub bits: Bits,
+    /// Its line, from 1.
+    pub line: usize,
+}
+
+/// Bytes of the memory that are stored before the start.
+#[derive(Clone, Debug, PartialEq, Eq)]
+pub struct PokeLine {
+    /// The address of the first.
+    pub address: usize,
+    /// What is stored there.
+    pub bytes: Vec<u8>,
     /// Its line, from 1.
     pub line: usize,
 }
@@ -165,6 +182,10 @@ struct Preparation {
     /// Whether the image is that of the common part, or of the case that `again` goes back to.
     inherited: bool,
     sets: Vec<SetLine>,
+    memory: Option<(MemoryName, usize)>,
+    /// The same of the memory.
+    inherited_memory: bool,
+    pokes: Vec<PokeLine>,
     /// Warnings about bytes that matter only if they are an IDCR.
     doubts: Vec<(Place, ScenarioError)>,
     channels: Vec<(Channel, usize)>,
@@ -227,7 +248,7 @@ impl Reading {
     /// What stands before the first case is common to all; it has no steps of its own.
     fn open(&mut self, line: usize) -> Result<(), ScenarioError> {
         if self.current.has_started() {
-            let problem = "a case after steps that belong to none: expected image, set, channel and name alone before the first case".into();
+            let problem = "a case after steps that belong to none: expected image, set, memory, poke, channel and name alone before the first case".into();
             return Err(ScenarioError { line, problem });
         }
         self.common = Some(std::mem::take(&mut self.current.preparation));
@@ -275,6 +296,7 @@ impl Draft {
     /// A case that has this before its own lines.
     fn starting(title: String, line: usize, mut preparation: Preparation) -> Draft {
         preparation.inherited = preparation.image.is_some();
+        preparation.inherited_memory = preparation.memory.is_some();
         Draft { title: Some((title, line)), preparation, ..Draft::default() }
     }
 
@@ -309,7 +331,7 @@ impl Draft {
             }
             other if self.has_started() => {
                 return Err(format!(
-                    "'{other}' after a step: expected image, set, channel and name before the first step"
+                    "'{other}' after a step: expected image, set, memory, poke, channel and name before the first step"
                 ))
             }
             other => return self.preparation.add(other, line),
@@ -333,7 +355,7 @@ impl Draft {
 
     /// The case; a missing image is told at its title, or where the file ends.
     fn close(self, last: usize) -> Result<Case, ScenarioError> {
-        let Preparation { image, sets, channels, names, .. } = self.preparation;
+        let Preparation { image, sets, memory, pokes, channels, names, .. } = self.preparation;
         let Some(image) = image else {
             let line = self.title.map_or(last, |(_, line)| line);
             let problem = format!("no image: expected {IMAGE}");
@@ -359,6 +381,8 @@ impl Draft {
             line,
             image,
             sets,
+            memory,
+            pokes,
             channels,
             channel_lines,
             names,
@@ -379,6 +403,16 @@ impl Preparation {
                 self.inherited = false;
             }
             Statement::Set { place, bits } => self.sets.push(SetLine { place, bits, line }),
+            Statement::Memory(memory) => {
+                if let (Some((_, before)), false) = (&self.memory, self.inherited_memory) {
+                    return Err(format!("a second memory: expected one, that of line {before}"));
+                }
+                self.memory = Some((memory, line));
+                self.inherited_memory = false;
+            }
+            Statement::Poke { address, bytes } => {
+                self.pokes.push(PokeLine { address, bytes, line });
+            }
             Statement::Channel(channel) => self.channels.push((channel, line)),
             Statement::Name(name, source) => return self.names.give(&name, source),
             // `Reading` and `Draft` have taken the others.
@@ -386,6 +420,22 @@ impl Preparation {
         }
         Ok(())
     }
+}
+
+/// What is told of a poke beyond the end of the memory of a line.
+fn beyond(first: usize, last: usize, length: usize, line: usize) -> String {
+    let place = match first == last {
+        true => address(first),
+        false => format!("{} to {}", address(first), address(last)),
+    };
+    let expected = match length {
+        0 => "expected a memory, by memory SIZE or memory FILE".to_string(),
+        _ => {
+            let last = address(length - 1);
+            format!("expected addresses of the memory of line {line}, 0000h to {last}")
+        }
+    };
+    format!("poke {place}: {expected}")
 }
 
 impl Case {
@@ -398,6 +448,35 @@ impl Case {
                 tell(set, *byte);
             }
         }
+    }
+
+    /// The memory that it starts with, its `poke` bytes stored; those of a file are read by its name. A poke beyond its
+    /// end is an error of the file.
+    pub fn memory<E: fmt::Display>(
+        &self,
+        read: impl FnOnce(&str) -> Result<Vec<u8>, E>,
+    ) -> Result<Vec<u8>, ScenarioError> {
+        let mut memory = match &self.memory {
+            None => Vec::new(),
+            Some((name, line)) => name.bytes(read).map_err(|error| {
+                let name = printable(name.to_string().as_bytes());
+                let expected =
+                    "expected a file of at most 65,536 bytes, or their number, as 512 or 200h";
+                let problem = format!("memory {name}: {error}: {expected}");
+                ScenarioError { line: *line, problem }
+            })?,
+        };
+        for PokeLine { address: first, bytes, line } in &self.pokes {
+            let end = first.saturating_add(bytes.len());
+            let length = memory.len();
+            let stored = memory.get_mut(*first..end).ok_or_else(|| {
+                let last = first.saturating_add(bytes.len() - 1);
+                let made = self.memory.as_ref().map_or(0, |(_, line)| *line);
+                ScenarioError { line: *line, problem: beyond(*first, last, length, made) }
+            })?;
+            stored.copy_from_slice(bytes);
+        }
+        Ok(memory)
     }
 
     /// The words of the steps.

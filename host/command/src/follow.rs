@@ -4,6 +4,7 @@ use crate::account::{Account, Counted};
 use crate::answers::Report;
 use crate::calls::{CallReport, Made, Model};
 use crate::expectation::{Came, Expect};
+use crate::lent::Lent;
 use crate::pending::Pending;
 use crate::{Ask, Asked, Call, Case, Object};
 use st9::{Channel, Refusal, RunError};
@@ -111,18 +112,18 @@ pub struct Followed {
     pub erased: usize,
     /// The steps that erased some though no expectation of theirs says what they erase or change, and how many.
     pub unexpected: Vec<(usize, usize)>,
-    /// Whether some step changed a byte.
+    /// Whether some step changed a register.
     pub changed: bool,
-    /// The image at the end.
-    pub image: Vec<u8>,
+    /// Image and memory at the end.
+    pub left: Lent,
     /// What became of the alarms; none where the image is refused.
     pub account: Option<Account>,
-    /// Why the image or the list would be refused, where no step or call needed it.
+    /// Why the image, the list or the memory would be refused, where no step or call needed it.
     pub lent: Option<Refusal>,
 }
 
 impl Followed {
-    fn starting(image: Vec<u8>, account: Option<Account>) -> Followed {
+    fn starting(left: Lent, account: Option<Account>) -> Followed {
         Followed {
             end: End::Done,
             done: 0,
@@ -133,30 +134,34 @@ impl Followed {
             erased: 0,
             unexpected: Vec::new(),
             changed: false,
-            image,
+            left,
             account,
             lent: None,
         }
     }
 }
 
-/// Follows a case from an image, its `set` bits stored.
+/// Follows a case from an image, its `set` bits stored, and a memory, its `poke` bytes stored.
 pub fn follow(
     case: &Case,
-    image: Vec<u8>,
+    start: Lent,
     model: &impl Model,
     tell: &mut impl FnMut(Event),
 ) -> Followed {
-    // On a copy: what a model does to the image though it refuses it is seen at the step that asks.
-    let lent = match model.run(&mut image.clone(), &case.channels, &[]) {
+    // On a copy: what a model does to it though it refuses it is seen at the step that asks.
+    let Lent { mut image, mut memory } = start.clone();
+    let lent = match model.run(&mut image, &case.channels, &mut memory, &[]) {
         Err(RunError::Call(refusal)) => Some(refusal),
         _ => None,
     };
     // Of an image that is refused no byte has its meaning; of a list no record.
-    let channels = if lent.is_none() { &case.channels[..] } else { &[] };
-    let account = Account::starting(Pending::of(&image, channels));
+    let channels = match lent {
+        None | Some(Refusal::Memory) => &case.channels[..],
+        Some(_) => &[],
+    };
+    let account = Account::starting(Pending::of(&start.image, channels));
     let account = (lent != Some(Refusal::ImageLength)).then_some(account);
-    let followed = Followed::starting(image, account);
+    let followed = Followed::starting(start, account);
     // All calls are over parts of one list.
     let calls = case.asks.iter().any(|ask| matches!(ask.what, Asked::Call(_)));
     let words = if calls { case.words() } else { Vec::new() };
@@ -167,7 +172,7 @@ pub fn follow(
     followed.lent = lent;
     followed.not_reached = asks.iter().filter(|ask| matches!(ask.what, Asked::Expect(_))).count();
     if let Some(account) = &mut followed.account {
-        account.end(Pending::of(&followed.image, channels));
+        account.end(Pending::of(&followed.left.image, channels));
     }
     followed
 }
@@ -189,22 +194,22 @@ struct Follower<'a, M, T> {
 
 impl<'a, M: Model, T: FnMut(Event)> Follower<'a, M, T> {
     fn all(&mut self) {
-        let mut before = self.followed.image.clone();
-        let mut pending = Pending::of(&before, self.channels);
+        let mut before = self.followed.left.clone();
+        let mut pending = Pending::of(&before.image, self.channels);
         for index in 0..=self.case.steps.len() {
             let going = self.calls(index) && self.step(index, &mut before, &mut pending);
             if !going {
                 return;
             }
         }
-        // The image's length and the list are looked at also where nothing is asked.
+        // What is lent is looked at also where nothing is asked.
         if self.case.steps.is_empty() && self.case.asks.is_empty() {
             self.ends_before(&[]);
         }
     }
 
     /// Whether the case ends here since what is lent is refused, and the first step or call that needs it does not
-    /// expect that. A view does not need the list.
+    /// expect that.
     fn ends_before(&mut self, expects: &[Ask]) -> bool {
         let Some(refusal) = self.lent.take() else {
             return false;
@@ -216,6 +221,13 @@ impl<'a, M: Model, T: FnMut(Event)> Follower<'a, M, T> {
         true
     }
 
+    /// Whether a call needs what is refused: a view not the list, and the bounds not the memory.
+    fn needs_lent(&self, call: &Call) -> bool {
+        let without_memory = matches!(call, Call::Bound(_) | Call::HandlerBound(_));
+        let passed_over = without_memory && self.lent == Some(Refusal::Memory);
+        !matches!(call, Call::View(_)) && !passed_over
+    }
+
     /// The calls after so many steps. Whether the case goes on.
     fn calls(&mut self, from: usize) -> bool {
         while let Some((Ask { after, line, what: Asked::Call(call) }, rest)) =
@@ -224,20 +236,20 @@ impl<'a, M: Model, T: FnMut(Event)> Follower<'a, M, T> {
             if *after != from {
                 break;
             }
-            if !matches!(call, Call::View(_)) && self.ends_before(group(rest, from)) {
+            if self.needs_lent(call) && self.ends_before(group(rest, from)) {
                 return false;
             }
             self.asks = rest;
-            let image = std::mem::take(&mut self.followed.image);
+            let left = std::mem::take(&mut self.followed.left);
             let words = &self.words[from.min(self.words.len())..];
             let made = Made { call: *call, line: *line, from };
-            let report = CallReport::of(self.model, made, words, &image, self.case);
+            let report = CallReport::of(self.model, made, words, &left, self.case);
             let (expects, expected) = self.expects(from, from, Came::Call(&report));
             (self.tell)(Event::Call(&report, expected));
             self.compare(expects, Came::Call(&report));
             let refusal = report.refusal().filter(|_| !expected);
             drop(report);
-            self.followed.image = image;
+            self.followed.left = left;
             if let Some(refusal) = refusal {
                 self.followed.end = End::Call { refusal, line: *line };
                 return false;
@@ -247,7 +259,7 @@ impl<'a, M: Model, T: FnMut(Event)> Follower<'a, M, T> {
     }
 
     /// A step. Whether the case goes on; there is nothing to do after the last.
-    fn step(&mut self, index: usize, before: &mut [u8], pending: &mut Pending) -> bool {
+    fn step(&mut self, index: usize, before: &mut Lent, pending: &mut Pending) -> bool {
         let Some(step) = self.case.steps.get(index).copied() else {
             return true;
         };
@@ -255,19 +267,20 @@ impl<'a, M: Model, T: FnMut(Event)> Follower<'a, M, T> {
         if self.ends_before(group(self.asks, line_end)) {
             return false;
         }
-        let mut after = std::mem::take(&mut self.followed.image);
-        before.copy_from_slice(&after);
+        let mut after = std::mem::take(&mut self.followed.left);
+        copy(before, &after);
         let Case { channels, names, .. } = self.case;
-        let answer = self.model.step(&mut after, channels, step.operation.step);
+        let Lent { image, memory } = &mut after;
+        let answer = self.model.step(image, channels, memory, step.operation.step);
         let report = Report { index, step, answer, before, after: &after, channels, names };
         let (expects, expected) = self.expects(index + 1, line_end, Came::Step(&report));
         (self.tell)(Event::Step(&report, expected));
         self.compare(expects, Came::Step(&report));
-        self.followed.changed = self.followed.changed || *before != *after;
+        self.followed.changed = self.followed.changed || before.image != after.image;
         match answer {
             Ok(answer) => {
                 let (step, line) = (step.operation.step, step.line);
-                let now = Pending::of(&after, self.channels);
+                let now = Pending::of(&after.image, self.channels);
                 let counted = Counted { step, line, answer, before: *pending, after: now };
                 let told = expects.iter().any(|ask| ask.what.tells_erased(Came::Step(&report)));
                 self.count(index, &counted, told);
@@ -276,7 +289,7 @@ impl<'a, M: Model, T: FnMut(Event)> Follower<'a, M, T> {
             Err(_) if expected => self.followed.refused += 1,
             Err(refusal) => self.followed.end = End::Step { refusal, index },
         }
-        self.followed.image = after;
+        self.followed.left = after;
         answer.is_ok() || expected
     }
 
@@ -324,6 +337,14 @@ impl<'a, M: Model, T: FnMut(Event)> Follower<'a, M, T> {
             };
             (self.tell)(Event::Compared(&comparison));
         }
+    }
+}
+
+/// Makes one the same as another. A memory is long and seldom another: it is compared first.
+fn copy(to: &mut Lent, from: &Lent) {
+    to.image.copy_from_slice(&from.image);
+    if to.memory != from.memory {
+        to.memory.copy_from_slice(&from.memory);
     }
 }
 

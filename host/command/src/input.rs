@@ -2,7 +2,7 @@
 
 use crate::output::{complain, Failure};
 use crate::progress::Progress;
-use scenario::{printable, Case, Scenario, Stored};
+use scenario::{printable, Case, Lent, Scenario, ScenarioError, Stored};
 use std::ffi::OsStr;
 use std::fs::File;
 use std::io::{self, Read};
@@ -15,7 +15,7 @@ const LARGEST_IMAGE: u64 = 1 << 24;
 /// The most warnings that are told of one file.
 const MOST_WARNINGS: usize = 10;
 
-/// A scenario's cases with the images that they start from.
+/// A scenario's cases with the images and memories that they start from.
 pub struct Loaded {
     /// The file's name as messages have it.
     pub file: String,
@@ -25,13 +25,13 @@ pub struct Loaded {
 /// A case and where it starts.
 pub struct Start {
     pub case: Case,
-    /// The image, the `set` bits stored.
-    pub image: Vec<u8>,
+    /// The image, the `set` bits stored, and the memory, the `poke` bytes stored.
+    pub lent: Lent,
     /// The byte that each `set` left, with its line.
     pub sets: Vec<(usize, Stored)>,
 }
 
-/// A scenario with all its images, so that a file that is missing is found before anything is run.
+/// A scenario with all its images and memories, so that a file that is missing is found before anything is run.
 pub fn scenario(file: &OsStr) -> Result<Loaded, Failure> {
     let shown = printable(file.as_bytes());
     let text = named(file, LARGEST_SCENARIO)
@@ -40,19 +40,8 @@ pub fn scenario(file: &OsStr) -> Result<Loaded, Failure> {
     let folder = Path::new(file).parent().unwrap_or(Path::new(""));
     let mut cases = Vec::with_capacity(scenario.cases.len());
     for case in scenario.cases {
-        let (image, line) = &case.image;
-        let read = |name: &str| stored(&folder.join(name), LARGEST_IMAGE);
-        let mut image = image.bytes(read).map_err(|error| {
-            let image = printable(image.to_string().as_bytes());
-            Failure(format!(
-                "{shown}:{line}: image {image}: {error}: expected a file of 1,265 bytes"
-            ))
-        })?;
-        let mut sets = Vec::new();
-        case.store(&mut image, |set, byte| {
-            sets.push((set.line, Stored { place: set.place, byte }));
-        });
-        cases.push(Start { case, image, sets });
+        let start = start(case, folder).map_err(|error| Failure(format!("{shown}:{error}")))?;
+        cases.push(start);
     }
     for warning in scenario.warnings.iter().take(MOST_WARNINGS) {
         complain(&format!("{shown}:{}: warning: {}", warning.line, warning.problem));
@@ -64,6 +53,23 @@ pub fn scenario(file: &OsStr) -> Result<Loaded, Failure> {
         ));
     }
     Ok(Loaded { file: shown, cases })
+}
+
+/// A case with what it starts from; its files are looked for in the scenario's folder.
+fn start(case: Case, folder: &Path) -> Result<Start, ScenarioError> {
+    let read = |name: &str| stored(&folder.join(name), LARGEST_IMAGE);
+    let (image, line) = &case.image;
+    let mut image = image.bytes(read).map_err(|error| {
+        let image = printable(image.to_string().as_bytes());
+        let problem = format!("image {image}: {error}: expected a file of 1,265 bytes");
+        ScenarioError { line: *line, problem }
+    })?;
+    let mut sets = Vec::new();
+    case.store(&mut image, |set, byte| {
+        sets.push((set.line, Stored { place: set.place, byte }));
+    });
+    let memory = case.memory(read)?;
+    Ok(Start { case, lent: Lent { image, memory }, sets })
 }
 
 fn parsed(text: &[u8]) -> Result<Scenario, scenario::ScenarioError> {

@@ -71,10 +71,10 @@ const LONGEST: usize = 32;
 /// The words of statements and expectations, which are no names of one's own.
 const RESERVED: &str = "above acknowledged after again and answer any arbitrate arbitration arbitrations as at before block bound by \
     byte bytes case changed channel counted dapr data dcpr direction disabled dma done edge enabled \
-    ended erased expect fails falling fill handler has idcr if image in interrupts ip is ivr last latest \
-    level list mark masked merged mode moved name nested never nmi no none not nothing of one other \
-    out page pending premise priority raised read refused repeat request reset return returned rising run \
-    selected service set source step steps the tlip top trigger vector view wait watchdog with \
+    ended erased expect fails falling fill from handler has idcr if image in interrupts ip is ivr last latest \
+    level list mark masked memory merged mode moved name nested never nmi no none not nothing of one other \
+    out page pending poke premise priority raised read refused repeat request reset return returned rising run \
+    selected service set source step steps the tlip to top trigger vector view wait watchdog with \
     write written zero";
 
 /// Names of one's own for sources, printed beside them.

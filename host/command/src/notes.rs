@@ -1,13 +1,16 @@
 //! What the command can tell beside a refusal of what is lent; the model's answer has the number alone.
 
+use crate::lent::Lent;
 use crate::quote::printable;
-use crate::{Case, ImageName};
+use crate::transfer;
+use crate::{Case, End, Followed, ImageName, MemoryName};
 use st9::{Channel, Refusal};
 
-/// What is wrong with the image or the channel list of a case.
-pub fn note(refusal: Refusal, case: &Case, length: usize) -> Option<String> {
+/// What is wrong with the image, the channel list or the memory of a case.
+pub fn note(refusal: Refusal, case: &Case, lent: &Lent) -> Option<String> {
     match refusal {
         Refusal::ImageLength => {
+            let length = lent.image.len();
             let (image, line) = &case.image;
             let name = match image {
                 ImageName::File(name) => printable(name.as_bytes()),
@@ -16,8 +19,32 @@ pub fn note(refusal: Refusal, case: &Case, length: usize) -> Option<String> {
             Some(format!("the image {name} (line {line}) has {length} bytes"))
         }
         Refusal::ChannelList => list(case),
+        Refusal::Memory => {
+            let (memory, line) = case.memory.as_ref()?;
+            let name = match memory {
+                MemoryName::File(name) => format!(" {}", printable(name.as_bytes())),
+                MemoryName::Zero { .. } => String::new(),
+            };
+            let length = lent.memory.len();
+            Some(format!("the memory{name} (line {line}) has {length} bytes"))
+        }
         _ => None,
     }
+}
+
+/// The address or the pointer of a transfer that was refused, by what the steps before it left.
+pub fn transfer_note(refusal: Refusal, case: &Case, left: &Lent) -> Option<String> {
+    transfer::refused(refusal, left, &case.channels, &case.names)
+}
+
+/// What can be told of the refusal that ended a case, at a step of its transfer too. A call is refused on a copy.
+pub fn end_note(followed: &Followed, case: &Case) -> Option<String> {
+    let (refusal, left) = (followed.end.refusal()?, &followed.left);
+    let transfer = || match followed.end {
+        End::Step { .. } => transfer_note(refusal, case, left),
+        _ => None,
+    };
+    note(refusal, case, left).or_else(transfer)
 }
 
 /// The first rule that the list breaks, by its records in order.

@@ -5,18 +5,19 @@ use crate::fields::Bits;
 use crate::names::{may_be_name, pin_named, record, register_named, Names, Place};
 use crate::number::{number, number_32};
 use crate::quote::{printable, quoted_start};
-use crate::statement::{Call, ImageName, Operation, Statement};
+use crate::statement::{may_be_size, Call, ImageName, MemoryName, Operation, Statement};
 use st9::{Channel, Edge, Source, Step};
 
 /// What is wrong with a line and what was expected.
 pub(crate) type Problem = String;
 
-const STATEMENTS: &str = "image, set, channel, name, case, again, a step (read, write, edge, watchdog, nmi, request, arbitrate, return, reset, step), \
+const STATEMENTS: &str = "image, set, memory, poke, channel, name, case, again, a step (read, write, edge, watchdog, nmi, request, arbitrate, return, reset, step), \
                           repeat, run, wait, bound, handler bound, view or expect";
 const STEP: &str = "a step as arbitrate or write EIPR 00h";
 const REGISTER: &str = "a register as EIPR, R243 or 243, without a page: PPR selects it";
 pub(crate) const BYTE: &str = "a byte as 97h, 0x97 or 151, at most FFh";
 const NUMBER: &str = "a number as 97h, 0x97 or 151";
+pub(crate) const ADDRESS: &str = "an address of the memory as 0005h, 0x5 or 5";
 const PIN: &str = "a pin as INTB0 or 2, or a name of your own";
 const RECORD: &str = "a record as 0 or CH0, or a name of your own";
 const DIRECTION: &str = "falling, rising or a number";
@@ -33,8 +34,8 @@ const MOST_WORDS: usize = 8;
 /// How often a step is done by one statement at most.
 const MOST_REPEATS: u64 = 1_000_000;
 
-/// The longest image that is made without a file.
-const LONGEST_IMAGE: u64 = 1 << 20;
+/// The longest image or memory that is made without a file.
+const LONGEST_MADE: u64 = 1 << 20;
 
 /// The statement of a line; none where it is blank or a comment. The line has no line feed; a carriage return at its
 /// end is passed over. Names of one's own are those given before.
@@ -56,6 +57,8 @@ pub fn statement(line: &[u8], names: &Names) -> Result<Option<Statement>, Proble
     keyword.make_ascii_lowercase();
     let statement = match &*keyword {
         b"image" => image(rest)?,
+        b"memory" => memory(rest)?,
+        b"poke" => poke(rest)?,
         b"case" if rest.is_empty() => return Err("the case has no title: expected one".into()),
         b"case" => Statement::Case(printable(rest)),
         b"again" => Statement::Again((!rest.is_empty()).then(|| printable(rest))),
@@ -227,25 +230,59 @@ fn image(name: &[u8]) -> Result<Statement, Problem> {
             let byte = byte(value).ok_or_else(|| expected(BYTE, value))?;
             ImageName::Fill { byte, length: length(rest, EXPECTED)? }
         }
-        _ => return file(name, EXPECTED),
+        _ => ImageName::File(file(name, EXPECTED)?),
     };
     Ok(Statement::Image(image))
 }
 
+/// So many bytes of 00h, or the bytes of a file.
+fn memory(name: &[u8]) -> Result<Statement, Problem> {
+    const EXPECTED: &str =
+        "a number of bytes, or a file's name (with blanks: between double quotes)";
+    let memory = match number(name) {
+        Some(length @ 0..=LONGEST_MADE) => MemoryName::Zero { length: length as usize },
+        _ if may_be_size(name) => return Err(expected("at most 1,048,576 bytes", name)),
+        _ => MemoryName::File(file(name, EXPECTED)?),
+    };
+    Ok(Statement::Memory(memory))
+}
+
+/// An address of the memory, and the bytes from there on.
+fn poke(words_after: &[u8]) -> Result<Statement, Problem> {
+    let all: Vec<_> = words(words_after).collect();
+    let mut arguments = Arguments(&all);
+    let address = arguments.take(ADDRESS, address)?;
+    Ok(Statement::Poke { address, bytes: some_bytes(&mut arguments)? })
+}
+
+pub(crate) fn address(word: &[u8]) -> Option<usize> {
+    usize::try_from(number(word)?).ok()
+}
+
+/// One byte or more, up to the end of the line.
+pub(crate) fn some_bytes(arguments: &mut Arguments) -> Result<Vec<u8>, Problem> {
+    let mut bytes = vec![arguments.take(BYTE, byte)?];
+    while !arguments.0.is_empty() {
+        bytes.push(arguments.take(BYTE, byte)?);
+    }
+    Ok(bytes)
+}
+
 /// The length of an image that is made, 1,265 where none is said.
 fn length(words: &[&[u8]], what: &str) -> Result<usize, Problem> {
-    const LENGTH: &str = "a length of at most 1048576 bytes";
+    const LENGTH: &str = "a length of at most 1,048,576 bytes";
     match words {
         [] => Ok(st9::IMAGE_LENGTH),
         [word] => match number(word) {
-            Some(length @ 0..=LONGEST_IMAGE) => Ok(length as usize),
+            Some(length @ 0..=LONGEST_MADE) => Ok(length as usize),
             _ => Err(expected(LENGTH, word)),
         },
         [_, more, ..] => Err(expected(what, more)),
     }
 }
 
-fn file(name: &[u8], what: &str) -> Result<Statement, Problem> {
+/// The name of a file.
+fn file(name: &[u8], what: &str) -> Result<String, Problem> {
     let quoted = name.strip_prefix(b"\"").and_then(|rest| rest.strip_suffix(b"\""));
     let bare = quoted.unwrap_or(name);
     let blank = quoted.is_none() && bare.iter().any(u8::is_ascii_whitespace);
@@ -253,7 +290,7 @@ fn file(name: &[u8], what: &str) -> Result<Statement, Problem> {
         return Err(expected(what, name));
     }
     match std::str::from_utf8(bare) {
-        Ok(bare) => Ok(Statement::Image(ImageName::File(bare.to_string()))),
+        Ok(bare) => Ok(bare.to_string()),
         Err(_) => Err(expected("a file's name in UTF-8", name)),
     }
 }
@@ -465,6 +502,16 @@ mod tests {
             ("image fill 0 3", "image zero 3"),
             ("image counted 0", "image counted 0"),
             ("set CICR cpl=7 IEN=1", "set CICR IEN=1 CPL=7"),
+            ("memory 10h", "memory 16"),
+            ("MEMORY 0", "memory 0"),
+            ("memory 0x100000 # most", "memory 1048576"),
+            ("memory \"16\"", "memory \"16\""),
+            ("memory \"99999999999999999999\"", "memory \"99999999999999999999\""),
+            ("memory ./16", "memory ./16"),
+            ("memory \"a # b\" # c", "memory \"a # b\""),
+            ("poke 5 5ah", "poke 0005h 5Ah"),
+            ("Poke FFFFh 1 2 0x3 # c", "poke FFFFh 01h 02h 03h"),
+            ("poke 10000h 0 0 0 0 0 0 0 0 0", "poke 10000h 00h 00h 00h 00h 00h 00h 00h 00h 00h"),
             ("name Fan 4", "name Fan INTC0"),
             ("name RX channel 0", "name RX CH0"),
             ("case  two  words # c", "case two  words"),

@@ -2,8 +2,8 @@
 
 use crate::output::{Outcome, Output};
 use scenario::{
-    changes, folded, note, refused_json, Account, Bit, CallReport, Case, Comparison, End, Event,
-    Followed, Loss, Names, Object, Report, Row, Stored,
+    changes, folded, memory_words, note, refused_json, stretches, Account, Bit, CallReport, Case,
+    Comparison, End, Event, Followed, Lent, Loss, Names, Object, Report, Row, Stored,
 };
 use st9::text::counted;
 
@@ -33,15 +33,16 @@ impl Printer<'_> {
         }
     }
 
-    /// The case's title, and with --verbose what each `set` stored.
+    /// The case's title, and with --verbose what each `set` and each `poke` stored.
     pub fn start(&mut self, first: bool, sets: &[(usize, Stored)]) {
         print_title(self.case, first, self.style.json, self.output);
         if self.style.verbose {
-            let channels = &self.case.channels;
+            let Case { channels, pokes, .. } = self.case;
             for (line, stored) in sets {
                 let words = || format!("set  line {line}: {}", stored.words(channels));
                 self.line(words, || stored.json(channels, Some(*line)));
             }
+            pokes.iter().for_each(|poke| self.line(|| poke.words(), || poke.json()));
         }
     }
 
@@ -92,20 +93,29 @@ impl Printer<'_> {
         self.line(words, || comparison.json(file));
     }
 
-    /// The changes of a step, or of the whole case.
-    fn changes(&mut self, before: &[u8], after: &[u8], step: Option<usize>) {
+    /// The changes of a step, or of the whole case: registers, then the memory.
+    fn changes(&mut self, before: &Lent, after: &Lent, step: Option<usize>) {
         let (channels, names) = (&self.case.channels, &self.case.names);
         let start = if step.is_some() { "    changed  " } else { "changed  " };
-        for change in changes(before, after) {
+        for change in changes(&before.image, &after.image) {
             let words = || format!("{start}{}", change.words(channels, names));
             self.line(words, || change.json(channels, step));
         }
+        let stretches = stretches(&before.memory, &after.memory);
+        let lines: Vec<_> = match self.style.json {
+            true => stretches.iter().map(|stretch| stretch.json(step)).collect(),
+            false => {
+                memory_words(&stretches).iter().map(|words| format!("{start}{words}")).collect()
+            }
+        };
+        lines.iter().for_each(|line| self.output.line(line));
     }
 
-    /// What the case left: changed registers, the account, how it ended. What `--fail-on` names and was met is told.
-    pub fn end(&mut self, start: &[u8], followed: &Followed, fail_on: &[Loss]) -> Outcome {
-        self.changes(start, &followed.image, None);
-        if start == followed.image && !self.style.json {
+    /// What the case left: changed registers and memory, the account, how it ended. What `--fail-on` names and was met
+    /// is told.
+    pub fn end(&mut self, start: &Lent, followed: &Followed, fail_on: &[Loss]) -> Outcome {
+        self.changes(start, &followed.left, None);
+        if start.image == followed.left.image && !self.style.json {
             self.output.line(match followed.changed {
                 true => "every register as at the start",
                 false => "no register changed",
@@ -135,7 +145,7 @@ impl Printer<'_> {
     fn result(&mut self, followed: &Followed, failed: &[(Loss, String)]) {
         let case = self.case;
         let refusal = followed.end.refusal().or(followed.lent);
-        let note = refusal.and_then(|refusal| note(refusal, case, followed.image.len()));
+        let note = refusal.and_then(|refusal| note(refusal, case, &followed.left));
         note.iter().for_each(|note| print_note(note, self.style.json, self.output));
         if self.style.json {
             self.output.line(&result_json(followed, case, failed));

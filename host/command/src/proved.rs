@@ -8,22 +8,35 @@ use st9::{Answer, Bound, Channel, Done, Refusal, RunError, Source, Step, Wait, W
 pub struct Proved;
 
 impl Model for Proved {
-    fn step(&self, image: &mut [u8], channels: &[Channel], step: Step) -> Result<Answer, Refusal> {
-        st9::step(image, channels, step)
+    fn step(
+        &self,
+        image: &mut [u8],
+        channels: &[Channel],
+        memory: &mut [u8],
+        step: Step,
+    ) -> Result<Answer, Refusal> {
+        st9::step(image, channels, memory, step)
     }
 
-    fn run(&self, image: &mut [u8], channels: &[Channel], words: &[u64]) -> Result<Done, RunError> {
-        st9::words::run(image, channels, words)
+    fn run(
+        &self,
+        image: &mut [u8],
+        channels: &[Channel],
+        memory: &mut [u8],
+        words: &[u64],
+    ) -> Result<Done, RunError> {
+        st9::words::run(image, channels, memory, words)
     }
 
     fn wait(
         &self,
         image: &mut [u8],
         channels: &[Channel],
+        memory: &mut [u8],
         source: Source,
         words: &[u64],
     ) -> Result<Wait, WaitError> {
-        st9::words::wait(image, channels, source, words)
+        st9::words::wait(image, channels, memory, source, words)
     }
 
     fn bound(

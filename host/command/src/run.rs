@@ -7,19 +7,19 @@ use crate::output::{Failure, Outcome, Output};
 use crate::print::{Printer, Style};
 use crate::progress::Progress;
 use crate::save::Saved;
-use scenario::{follow, Event, Followed, Object, Proved};
+use scenario::{follow, Event, Followed, Lent, Object, Proved};
 
 pub fn run(options: &Run, output: &mut Output) -> Result<Outcome, Failure> {
     let loaded = input::scenario(&options.file)?;
-    let saved = Saved::open(options.save.as_deref(), &loaded)?;
+    let saved = Saved::open(&options.save, &loaded)?;
     let mut outcome = Outcome::Done;
     let mut counts = Counts::default();
-    let mut last = Vec::new();
+    let mut last = Lent::default();
     for (position, start) in loaded.cases.iter().enumerate() {
         let (followed, ended) = one(options, &loaded.file, start, position == 0, output);
         counts.add(&followed, &start.case, ended == Outcome::Done);
         outcome = outcome.max(ended);
-        last = followed.image;
+        last = followed.left;
     }
     if loaded.cases.len() > 1 {
         if !options.json {
@@ -30,9 +30,7 @@ pub fn run(options: &Run, output: &mut Output) -> Result<Outcome, Failure> {
             false => counts.words(),
         });
     }
-    if let Some(saved) = saved {
-        saved.write(&last)?;
-    }
+    saved.write(&last)?;
     Ok(outcome)
 }
 
@@ -45,7 +43,7 @@ fn one(
     output: &mut Output,
 ) -> (Followed, Outcome) {
     let Run { json, quiet, verbose, .. } = *options;
-    let Start { case, image, sets } = start;
+    let Start { case, lent, sets } = start;
     let mut printer = Printer { file, case, style: Style { json, quiet, verbose }, output };
     printer.start(first, sets);
     let count = case.steps.len();
@@ -53,13 +51,13 @@ fn one(
         true => Progress::new(count, "steps"),
         false => Progress::beside_lines(count, "steps"),
     };
-    let followed = follow(case, image.clone(), &Proved, &mut |event| {
+    let followed = follow(case, lent.clone(), &Proved, &mut |event| {
         if let Event::Step(report, _) = &event {
             progress.at(report.index);
         }
         printer.event(&event);
     });
     drop(progress);
-    let outcome = printer.end(image, &followed, &options.fail_on);
+    let outcome = printer.end(lent, &followed, &options.fail_on);
     (followed, outcome)
 }

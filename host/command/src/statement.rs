@@ -2,7 +2,9 @@
 
 use crate::expectation::Expect;
 use crate::fields::Bits;
+use crate::memory::{address, bytes};
 use crate::names::{register_name, Place, Role};
+use crate::number::number;
 use st9::text::hex;
 use st9::{Channel, Edge, Source, Step};
 use std::fmt;
@@ -18,6 +20,15 @@ pub enum Statement {
         place: Place,
         /// What is stored there.
         bits: Bits,
+    },
+    /// The memory to start with.
+    Memory(MemoryName),
+    /// Bytes of the memory before the start.
+    Poke {
+        /// The address of the first.
+        address: usize,
+        /// What is stored there.
+        bytes: Vec<u8>,
     },
     /// A record of the channel list.
     Channel(Channel),
@@ -36,7 +47,7 @@ pub enum Statement {
         /// The step.
         operation: Operation,
     },
-    /// A call on a copy of the image, over the steps that follow.
+    /// A call on a copy of image and memory, over the steps that follow.
     Call(Call),
     /// What the step or the call before it gives.
     Expect(Expect),
@@ -61,6 +72,18 @@ pub enum ImageName {
     File(String),
 }
 
+/// The memory that a case starts with.
+#[derive(Clone, Debug, PartialEq, Eq)]
+pub enum MemoryName {
+    /// Bytes of 00h.
+    Zero {
+        /// How many.
+        length: usize,
+    },
+    /// The bytes of a file.
+    File(String),
+}
+
 /// A step, and how its register was written.
 #[derive(Clone, Copy, Debug, PartialEq, Eq)]
 pub struct Operation {
@@ -70,7 +93,7 @@ pub struct Operation {
     pub named: bool,
 }
 
-/// A call of the model on a copy of the image. All but the view are over the steps that follow, to the end of the case.
+/// A call of the model on a copy of image and memory. All but the view are over the steps that follow, to the end of the case.
 #[derive(Clone, Copy, Debug, PartialEq, Eq)]
 pub enum Call {
     /// The run.
@@ -101,12 +124,26 @@ impl ImageName {
     }
 }
 
+impl MemoryName {
+    /// Its bytes; those of a file are read by its name.
+    pub fn bytes<E>(&self, read: impl FnOnce(&str) -> Result<Vec<u8>, E>) -> Result<Vec<u8>, E> {
+        match self {
+            MemoryName::Zero { length } => Ok(vec![0; *length]),
+            MemoryName::File(name) => read(name),
+        }
+    }
+}
+
 impl fmt::Display for Statement {
     fn fmt(&self, f: &mut fmt::Formatter<'_>) -> fmt::Result {
         match self {
             Statement::Image(image) => write!(f, "image {image}"),
             Statement::Set { place, bits } => {
                 write!(f, "set {} {}", place.written(), bits.written(*place))
+            }
+            Statement::Memory(memory) => write!(f, "memory {memory}"),
+            Statement::Poke { address: first, bytes: stored } => {
+                write!(f, "poke {} {}", address(*first), bytes(stored))
             }
             Statement::Channel(channel) => write_channel(f, channel),
             Statement::Name(name, source) => write!(f, "name {name} {}", source_word(*source)),
@@ -125,8 +162,7 @@ impl fmt::Display for ImageName {
     fn fmt(&self, f: &mut fmt::Formatter<'_>) -> fmt::Result {
         let length = match self {
             ImageName::Fill { length, .. } | ImageName::Counted { length } => *length,
-            ImageName::File(name) if needs_quotes(name) => return write!(f, "\"{name}\""),
-            ImageName::File(name) => return f.write_str(name),
+            ImageName::File(name) => return write_file(f, name, is_made(name)),
         };
         match self {
             ImageName::Fill { byte: 0, .. } => f.write_str("zero")?,
@@ -140,10 +176,32 @@ impl fmt::Display for ImageName {
     }
 }
 
-fn needs_quotes(name: &str) -> bool {
+/// Whether a word after `image` means no file.
+fn is_made(name: &str) -> bool {
+    ["zero", "fill", "counted"].iter().any(|made| name.eq_ignore_ascii_case(made))
+}
+
+impl fmt::Display for MemoryName {
+    fn fmt(&self, f: &mut fmt::Formatter<'_>) -> fmt::Result {
+        match self {
+            MemoryName::Zero { length } => write!(f, "{length}"),
+            MemoryName::File(name) => write_file(f, name, may_be_size(name.as_bytes())),
+        }
+    }
+}
+
+/// Whether a word after `memory` is meant as a number of bytes, too large ones included.
+pub(crate) fn may_be_size(word: &[u8]) -> bool {
+    number(word).is_some() || !word.is_empty() && word.iter().all(u8::is_ascii_digit)
+}
+
+/// The name of a file; between double quotes where it has blanks or a `#`, or would mean something else.
+fn write_file(f: &mut fmt::Formatter<'_>, name: &str, otherwise: bool) -> fmt::Result {
     let special = |byte: u8| byte == b'#' || byte.is_ascii_whitespace();
-    let made = ["zero", "fill", "counted"].iter().any(|made| name.eq_ignore_ascii_case(made));
-    made || name.bytes().any(special)
+    match otherwise || name.bytes().any(special) {
+        true => write!(f, "\"{name}\""),
+        false => f.write_str(name),
+    }
 }
 
 impl Place {

@@ -5,7 +5,7 @@ use crate::counts::{unexpected, Counts};
 use crate::input::{self, Loaded, Start};
 use crate::output::{complain, Failure, Outcome, Output};
 use crate::print::{end_words, failed, print_note};
-use scenario::{follow, note, quoted, Case, Comparison, End, Event, Followed, Object, Proved};
+use scenario::{end_note, follow, quoted, Case, Comparison, End, Event, Followed, Object, Proved};
 use st9::text::counted;
 use std::ffi::OsString;
 use std::os::unix::ffi::OsStrExt;
@@ -72,9 +72,9 @@ fn below(folder: &Path, all: &mut Vec<PathBuf>) -> std::io::Result<()> {
 }
 
 fn cases(loaded: &Loaded, options: &Test, counts: &mut Counts, output: &mut Output) {
-    for Start { case, image, .. } in &loaded.cases {
+    for Start { case, lent, .. } in &loaded.cases {
         let mut unmet = Vec::new();
-        let followed = follow(case, image.clone(), &Proved, &mut |event| {
+        let followed = follow(case, lent.clone(), &Proved, &mut |event| {
             if let Event::Compared(comparison @ Comparison { met: false, .. }) = event {
                 unmet.push(comparison.clone());
             }
@@ -161,7 +161,7 @@ impl Told<'_> {
 
     /// What can be told beside a refusal.
     fn note(&self) -> Option<String> {
-        note(self.followed.end.refusal()?, self.case, self.followed.image.len())
+        end_note(self.followed, self.case)
     }
 
     fn json(&self, unmet: &[Comparison], losses: &[(scenario::Loss, String)], output: &mut Output) {

@@ -8,8 +8,8 @@ use crate::print::{print_note, print_rows, print_title};
 use crate::progress::Progress;
 use crate::save::Saved;
 use scenario::{
-    bound_json, folded, follow, note, waited_json, waited_words, Account, Bit, Bounds, Case, Claim,
-    List, Loss, Names, Object, Proved, Row,
+    bound_json, folded, follow, note, transfer_note, waited_json, waited_words, Account, Bit,
+    Bounds, Case, Claim, Lent, List, Loss, Names, Object, Proved, Row,
 };
 use st9::{Bound, Premise, Refusal, Source, Wait, WaitError};
 use std::ffi::OsStr;
@@ -19,14 +19,14 @@ pub fn wait(options: &Options, output: &mut Output) -> Result<Outcome, Failure> 
     let loaded = input::scenario(&options.file)?;
     let asked = loaded.cases.iter().map(|start| asked(options, &start.case));
     let asked = asked.collect::<Result<Vec<_>, _>>()?;
-    let saved = Saved::open(options.save.as_deref(), &loaded)?;
+    let saved = Saved::open(&options.save, &loaded)?;
     let mut outcome = Outcome::Done;
-    let mut last = Vec::new();
-    for (position, Start { case, image, .. }) in loaded.cases.iter().enumerate() {
+    let mut last = Lent::default();
+    for (position, Start { case, lent, .. }) in loaded.cases.iter().enumerate() {
         print_title(case, position == 0, options.json, output);
         let asked = &asked[position];
-        let reports: Vec<_> = asked.iter().map(|source| Report::of(case, image, *source)).collect();
-        let account = account_of(case, image);
+        let reports: Vec<_> = asked.iter().map(|source| Report::of(case, lent, *source)).collect();
+        let account = account_of(case, lent);
         match (options.json, &reports[..]) {
             (true, reports) => reports.iter().for_each(|report| report.print_json(case, output)),
             (false, [report]) if options.source.is_some() => report.print(case, output),
@@ -37,11 +37,9 @@ pub fn wait(options: &Options, output: &mut Output) -> Result<Outcome, Failure> 
         let note = reports.first().and_then(|report| report.note(case));
         note.iter().for_each(|note| print_note(note, options.json, output));
         outcome = outcome.max(judged(options, case, &account, &reports, output));
-        last = reports.into_iter().next().map(|report| report.image).unwrap_or_default();
+        last = reports.into_iter().next().map(|report| report.left).unwrap_or_default();
     }
-    if let Some(saved) = saved {
-        saved.write(&last)?;
-    }
+    saved.write(&last)?;
     Ok(outcome)
 }
 
@@ -74,25 +72,26 @@ struct Report {
     source: Source,
     waited: Result<Wait, WaitError>,
     bounds: Result<Bounds, Refusal>,
-    /// The image after the wait.
-    image: Vec<u8>,
+    /// Image and memory after the wait.
+    left: Lent,
 }
 
 impl Report {
-    fn of(case: &Case, image: &[u8], source: Source) -> Report {
+    fn of(case: &Case, lent: &Lent, source: Source) -> Report {
         let words = case.words();
         let progress = Progress::new(words.len(), "steps");
         progress.whole("the bound over");
-        let bounds = Bounds::of(&Proved, image, &case.channels, source, &words);
+        let bounds = Bounds::of(&Proved, &lent.image, &case.channels, source, &words);
         progress.whole("the wait report over");
-        let mut image = image.to_vec();
-        let waited = st9::words::wait(&mut image, &case.channels, source, &words);
-        Report { source, waited, bounds, image }
+        let mut left = lent.clone();
+        let Lent { image, memory } = &mut left;
+        let waited = st9::words::wait(image, &case.channels, memory, source, &words);
+        Report { source, waited, bounds, left }
     }
 
     fn print(&self, case: &Case, output: &mut Output) {
         let source = case.names.told(self.source);
-        let waited = self.waited_words(case);
+        let waited = waited_words(self.waited, case, 0, Some(&self.left));
         output.line(&format!("wait for {source} (source {}): {waited}", self.source.0));
         let bound = match self.bounds {
             Ok(bounds) => bounds.explained(list(case)),
@@ -118,13 +117,17 @@ impl Report {
         demand3 == Ok(Bound::Fails(Premise::NotPending)) && self.is_acknowledged(None)
     }
 
-    fn waited_words(&self, case: &Case) -> String {
-        waited_words(self.waited, case, 0)
+    /// Why a transfer ended the wait.
+    fn refused_transfer(&self, case: &Case) -> Option<String> {
+        match self.waited {
+            Err(WaitError::Step { refusal, .. }) => transfer_note(refusal, case, &self.left),
+            _ => None,
+        }
     }
 
     fn note(&self, case: &Case) -> Option<String> {
         match self.waited {
-            Err(WaitError::Call(refusal)) => note(refusal, case, self.image.len()),
+            Err(WaitError::Call(refusal)) => note(refusal, case, &self.left),
             _ => None,
         }
     }
@@ -172,7 +175,8 @@ fn print_table(case: &Case, account: &Account, reports: &[Report], output: &mut 
             Ok(bounds) => bounds.words(list(case)),
             Err(refusal) => refusal.with_number(),
         };
-        [case.names.told(report.source), report.waited_words(case), bound]
+        let waited = waited_words(report.waited, case, 0, None);
+        [case.names.told(report.source), waited, bound]
     });
     let head = ["source", "wait", "bound (if the list has so many arbitrations)"].map(String::from);
     let rows: Vec<_> = std::iter::once(head).chain(rows).collect();
@@ -185,13 +189,17 @@ fn print_table(case: &Case, account: &Account, reports: &[Report], output: &mut 
         let names: Vec<_> = idle.iter().map(|report| case.names.told(report.source)).collect();
         output.line(&format!("nothing came for {}", names.join(", ")));
     }
+    // All end at the same step: why is told once, not in each row.
+    if let Some(why) = waiting.iter().find_map(|report| report.refused_transfer(case)) {
+        print_note(&why, false, output);
+    }
 }
 
 /// What became of the alarms over the steps of a case. As in the wait report there is no call and no expectation, and
 /// the first refused step is the end.
-fn account_of(case: &Case, image: &[u8]) -> Account {
+fn account_of(case: &Case, lent: &Lent) -> Account {
     let steps = Case { asks: Vec::new(), ..case.clone() };
-    follow(&steps, image.to_vec(), &Proved, &mut |_| ()).account.unwrap_or_default()
+    follow(&steps, lent.clone(), &Proved, &mut |_| ()).account.unwrap_or_default()
 }
 
 /// The sources whose row of the account has something.

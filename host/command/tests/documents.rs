@@ -322,6 +322,29 @@ fn guide_shows_a_channel() {
     ran.with_code(0);
 }
 
+/// The lines about memory are the example's, and what it prints is what is shown. The C below is compiled by host/st9's
+/// tests.
+#[test]
+fn guide_shows_a_block_into_memory() {
+    let guide = document("docs/GUIDE.md");
+    let example = document("examples/memory-block.st9");
+    assert!(has_lines(&example, &block(&guide, "memory 200h")));
+    let arguments = ["run", "examples/memory-block.st9"];
+    let out = st9_in(&root(), &arguments, b"").with_code(0).out;
+    assert!(guide.contains(&format!("./st9 {}", arguments.join(" "))));
+    let shown = block(&guide, " 2  arbitrate             DMA");
+    assert!(shown.lines().count() == 5 && has_lines(&out, &shown), "{out}");
+    for words in ["poke 0100h 41h 42h", "expect memory 0100h 41h 42h 43h", "M0100h 00h -> 41h"] {
+        assert!(guide.contains(&format!("`{words}`")), "{words}");
+    }
+    let left = format!("{example}expect memory 0100h 41h 42h 43h\n");
+    st9(&["test", "-"], &left).with_code(0);
+    st9(&["test", "-"], &left.replace("42h 43h\n", "42h 44h\n")).with_code(3);
+    let changed = "R17 03h -> 02h, R19 00h -> 01h, R240.p9 3Ah -> 1Ah, M0100h 00h -> 41h";
+    let expected = format!("arbitrate\nexpect changed {changed}\n");
+    st9(&["test", "-"], &example.replacen("arbitrate\n", &expected, 1)).with_code(0);
+}
+
 #[test]
 fn guide_shows_its_test() {
     let guide = document("docs/GUIDE.md");

@@ -4,7 +4,7 @@ mod support;
 
 use support::{folder, st9, st9_in};
 
-const STATEMENTS: &str = "image, set, channel, name, case, again, a step (read, write, edge, watchdog, nmi, request, arbitrate, return, reset, step), \
+const STATEMENTS: &str = "image, set, memory, poke, channel, name, case, again, a step (read, write, edge, watchdog, nmi, request, arbitrate, return, reset, step), \
                           repeat, run, wait, bound, handler bound, view or expect";
 const NAME: &str = "zero, fill BYTE or counted, each with or without a length, or a file's name (with blanks: between double quotes)";
 
@@ -59,6 +59,22 @@ step => the line ends too early: expected a number as 97h, 0x97 or 151
 step 0x10000000000000000 => '0x10000000000000000': expected a number as 97h, 0x97 or 151
 return 1 2 3 4 5 6 7 8 9 => '9': expected the end of the line
 image zero => a second image: expected one, that of line 1
+memory => nothing: expected LENGTH
+memory a b => 'a b': expected LENGTH
+memory \"\" => '\"\"': expected LENGTH
+memory 1048577 => '1048577': expected at most 1,048,576 bytes
+memory 100001h => '100001h': expected at most 1,048,576 bytes
+memory 99999999999999999999 => '99999999999999999999': expected at most 1,048,576 bytes
+poke => the line ends too early: expected ADDRESS
+poke M5 1 => 'M5': expected ADDRESS
+poke 18446744073709551616 1 => '18446744073709551616': expected ADDRESS
+poke 5 => the line ends too early: expected BYTE
+poke 5 1 256 => '256': expected BYTE
+poke 5 1 x => 'x': expected BYTE
+poke 5 1 => poke 0005h: expected a memory, by memory SIZE or memory FILE
+name Memory INTC0 => 'Memory': expected NAME
+name poke INTC0 => 'poke': expected NAME
+repeat 3 poke 5 1 => 'poke': expected STEP
 read\0EIPR => 'read\\x00EIPR': expected STATEMENTS
 read \u{E9} => '\u{E9}': expected REGISTER
 read 'EIPR' => ''EIPR'': expected REGISTER
@@ -112,8 +128,10 @@ expect raised => 'expect raised' before a step: expected a step, run, wait, boun
 arbitrate\rreturn => a carriage return inside a line: expected lines ended by LF or CRLF";
 
 /// What stands for the words in capitals.
-const EXPECTED: [(&str, &str); 12] = [
+const EXPECTED: [(&str, &str); 14] = [
     ("TIMES", "how often, 1 to 1000000"),
+    ("ADDRESS", "an address of the memory as 0005h, 0x5 or 5"),
+    ("LENGTH", "a number of bytes, or a file's name (with blanks: between double quotes)"),
     ("STEP", "a step as arbitrate or write EIPR 00h"),
     ("PIN", "a pin as INTB0 or 2, or a name of your own"),
     ("RECORD", "a record as 0 or CH0, or a name of your own"),
@@ -165,7 +183,7 @@ DMA of => the line ends too early: expected SOURCE
 DMA CH0 block starts => 'starts': expected the end of the line
 refused => the line ends too early: expected the number of a refusal
 refused 0 => '0': expected the number of a refusal
-refused 8 => '8': expected the number of a refusal
+refused 9 => '9': expected the number of a refusal
 refused 3 before => 'before': expected the end of the line
 refused 3 before step => 'before': expected the end of the line
 refused 4 before any step after 1 arbitration => 'after': expected the end of the line
@@ -179,9 +197,23 @@ none: the write at step 1 masked => 'masked': expected PREMISE
 done => the line ends too early: expected a number
 done 1 last => the line ends too early: expected ANY
 bytes 00h 01h => the line ends too early: expected sixteen bytes
-changed => the line ends too early: expected nothing, or registers with their bytes
+changed => the line ends too early: expected nothing, or registers and addresses with their bytes
 changed EIPR => the line ends too early: expected BYTE
-changed EIPR 1 EIPR 2 => 'EIPR': expected each register once
+changed EIPR 1 EIPR 2 => 'EIPR': expected each byte once
+changed M5 => the line ends too early: expected BYTE
+changed M5 x => 'x': expected BYTE
+changed M5 1 -> => the line ends too early: expected BYTE
+changed M5 1 2 -> 3 => 2 and 1 bytes: expected as many after -> as before it
+changed M5 1 M5h 2 => 'M5h': expected each byte once
+changed M5 1 2 M6 2 => 'M6': expected each byte once
+changed Mx 1 => 'Mx': expected R0 to R239, a name as EIPR, R240.p9 or MARK
+memory => the line ends too early: expected ADDRESS
+memory 5 => the line ends too early: expected BYTE
+memory M5 1 => 'M5': expected ADDRESS
+memory 5 256 => '256': expected BYTE
+DMA CH0 to memory => the line ends too early: expected ADDRESS
+DMA CH0 to R5 => 'to': expected the end of the line
+done 1 last memory 5 1 => 'memory': expected the answer of a step
 changed nothing EIPR 1 => 'EIPR': expected the end of the line
 changed 243 1 => '243': expected a register as R16, EIPR or R240.p9
 5 0 => '5': expected a register as R16, EIPR or R240.p9
@@ -195,8 +227,9 @@ raised (INTB0 => '(': expected its closing parenthesis";
 fn bad_expectations_are_told() {
     let words = [
         ("PREMISE", "a premise of a bound, as not pending or masked ('st9 help expect' has all)"),
-        ("ANY", "an answer as the command prints it, changed, or a register"),
+        ("ANY", "an answer as the command prints it, changed, memory, or a register"),
         ("BYTE", "a byte as 97h, 0x97 or 151, at most FFh"),
+        ("ADDRESS", "an address of the memory as 0005h, 0x5 or 5"),
         ("BIT", "TLIP, or a source as INTB1, CH0, channel 0 or a name of your own"),
         ("SOURCE", "a source as INTB1, CH0, channel 0 or a name of your own"),
     ];
@@ -214,10 +247,10 @@ fn bad_expectations_are_told() {
 #[test]
 fn bad_order() {
     let first = "expected image zero or image FILE before the first step";
-    let late = "expected image, set, channel and name before the first step";
+    let late = "expected image, set, memory, poke, channel and name before the first step";
     let again = "again before a case: expected case TITLE before it";
     let record = "channel page=9 idcr=240 ivr=241 dcpr=242 dapr=243 data=244 in";
-    let common = "a case after steps that belong to none: expected image, set, channel and name alone before the first case";
+    let common = "a case after steps that belong to none: expected image, set, memory, poke, channel and name alone before the first case";
     let cases = [
         ("", format!("-:1: no image: {first}")),
         ("\n# nothing\n\n", format!("-:3: no image: {first}")),
@@ -228,6 +261,16 @@ fn bad_order() {
         ("image zero\nreturn\nset R1 1\n", format!("-:3: 'set R1 01h' after a step: {late}")),
         ("image zero\nview 0\nimage zero\n", format!("-:3: 'image zero' after a step: {late}")),
         ("image zero\nimage zero\n", "-:2: a second image: expected one, that of line 1".into()),
+        (
+            "image zero\nmemory 1\nmemory 2\n",
+            "-:3: a second memory: expected one, that of line 2".into(),
+        ),
+        (
+            "memory 1\nimage zero\ncase a\nmemory 2\nmemory 3\n",
+            "-:5: a second memory: expected one, that of line 4".into(),
+        ),
+        ("image zero\nreturn\nmemory 1\n", format!("-:3: 'memory 1' after a step: {late}")),
+        ("image zero\nreturn\npoke 1 2\n", format!("-:3: 'poke 0001h 02h' after a step: {late}")),
         ("image zero\nreturn\nname A INTA0\n", format!("-:3: 'name A INTA0' after a step: {late}")),
         (
             &format!("image zero\nreturn\n{record}\n"),
@@ -276,7 +319,7 @@ fn bad_order() {
         ("image zero 1 2\n", format!("-:1: '2': expected {NAME}")),
         (
             "image zero 1048577\n",
-            "-:1: '1048577': expected a length of at most 1048576 bytes".into(),
+            "-:1: '1048577': expected a length of at most 1,048,576 bytes".into(),
         ),
         ("image fill\n", "-:1: nothing: expected a byte as 97h, 0x97 or 151, at most FFh".into()),
         ("image \"a\n", format!("-:1: '\"a': expected {NAME}")),
@@ -336,11 +379,14 @@ const BAD_USAGE: &str = "\
 walk => 'walk' is no command: expected run, test, wait, show or help
 run => the file is missing: expected a scenario file
 run a b => 'b' is one word too many: expected a scenario file
-run a --page 1 => '--page' is no option here: expected --json, --quiet, --verbose, --save, --fail-on
-run a --json=1 => '--json=1' is no option here: expected --json, --quiet, --verbose, --save, --fail-on
+run a --page 1 => '--page' is no option here: expected --json, --quiet, --verbose, --save, --save-memory, --fail-on
+run a --json=1 => '--json=1' is no option here: expected --json, --quiet, --verbose, --save, --save-memory, --fail-on
 run a --save => --save has no value: expected one after it
 run a --save - => '-' is no file to save to: expected a file's name
-run -q a => '-q' is no option here: expected --json, --quiet, --verbose, --save, --fail-on
+run a --save-memory => --save-memory has no value: expected one after it
+run a --save-memory - => '-' is no file to save to: expected a file's name
+run a --save b --save-memory b => --save and --save-memory 'b': expected two files
+run -q a => '-q' is no option here: expected --json, --quiet, --verbose, --save, --save-memory, --fail-on
 run --json a --json => --json stands twice: expected it once
 run -- --json --quiet => '--quiet' is one word too many: expected a scenario file
 run a --quiet --verbose => --quiet and --verbose: expected one of them
@@ -351,6 +397,8 @@ test a --quiet => '--quiet' is no option here: expected --json, --fail-on
 wait a --fail-on erased => --fail-on 'erased': expected never
 wait a --within x => --within 'x': expected a number of arbitrations
 wait a --save b => --save without a source: expected --source with it
+wait a --save-memory b => --save-memory without a source: expected --source with it
+test a --save-memory b => '--save-memory' is no option here: expected --json, --fail-on
 wait a --source channel => --source has no value: expected one after it
 show a --page x => 'x' is no page: expected a number, 0 to 63
 show => the file is missing: expected an image file, or - for standard input

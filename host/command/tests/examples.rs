@@ -10,7 +10,7 @@ use support::{examples, root, st9_in};
 fn examples_print_what_is_expected() {
     let files = examples();
     let names: Vec<_> = files.iter().filter_map(|file| file.file_stem()).collect();
-    assert_eq!(names, ["bound", "dma-block", "march", "own-bit", "reviewer"]);
+    assert_eq!(names, ["bound", "dma-block", "march", "memory-block", "own-bit", "reviewer"]);
     for file in files {
         let text = fs::read_to_string(&file).expect("a scenario");
         let first = text.lines().next().expect("a first line");

@@ -376,8 +376,8 @@ arbitrate
 set R240.p9 3Ah
 set R242.p9 F0h
 arbitrate
-+ refused 5
-- refused 6
++ refused 6
+- refused 5
 
 set R240.p9 3Ah
 set R242.p9 E1h
@@ -814,7 +814,7 @@ fn unmet_ones_are_told_in_full() {
 fn what_cannot_be_expected() {
     let rows = "| byte | byte 256 | byte 14h 15h | erased | erased 14h INTB0 | none: foo \
                 | acknowledged INTE0 | acknowledged INTB0 level | acknowledged UNKNOWN | changed | changed R5 \
-                | changed nothing R5 1 | changed R240 1 | done | refused | refused 0 | refused 8 | refused three \
+                | changed nothing R5 1 | changed R240 1 | done | refused | refused 0 | refused 9 | refused three \
                 | returned now | CICR | CICR 97h 87h | CICR IEN=2 | CICR CPL=8 | CICR FOO=1 | R5 R6 | R256 0 \
                 | R240.p64 0 | bytes 0 0 0 0 0 0 0 0 0 0 0 0 0 0 0 | bytes 0 0 0 0 0 0 0 0 0 0 0 0 0 0 0 0 0 \
                 | never ever | DMA | DMA of | none ( | none ) | (none) | nonsense";

@@ -2,14 +2,14 @@
 
 mod support;
 
-use scenario::{Asked, Case, Scenario, Statement};
+use scenario::{Asked, Case, PokeLine, Scenario, Statement};
 use st9::Source;
 use support::{examples, is_json, st9_in, Random};
 
 const PARSES: usize = 100_000;
 const RUNS: usize = 600;
 
-const WORDS: [&str; 94] = [
+const WORDS: [&str; 102] = [
     "image",
     "zero",
     "set",
@@ -104,6 +104,14 @@ const WORDS: [&str; 94] = [
     "fill",
     "counted",
     "(",
+    "memory",
+    "memory 16",
+    "poke",
+    "poke 5 1",
+    "expect memory",
+    "M0005h",
+    "to memory 5",
+    "17",
 ];
 
 /// A file that is made of words, mostly after an image.
@@ -172,8 +180,12 @@ fn case_written_again(case: &Case) -> String {
     });
     let sets = case.sets.iter().map(|set| Statement::Set { place: set.place, bits: set.bits });
     let channels = case.channels.iter().copied().map(Statement::Channel);
+    let memory = case.memory.iter().map(|(memory, _)| Statement::Memory(memory.clone()));
+    let poke =
+        |poke: &PokeLine| Statement::Poke { address: poke.address, bytes: poke.bytes.clone() };
+    let pokes = case.pokes.iter().map(poke);
     let mut statements = vec![title, image];
-    statements.extend(names.chain(sets).chain(channels));
+    statements.extend(names.chain(sets).chain(memory).chain(pokes).chain(channels));
     let mut asks = case.asks.iter().peekable();
     for after in 0..=case.steps.len() {
         while let Some(ask) = asks.next_if(|ask| ask.after == after) {
@@ -192,6 +204,11 @@ fn assert_same(again: &Case, case: &Case) {
     assert_eq!(again.image.0, case.image.0);
     let sets = |case: &Case| case.sets.iter().map(|set| (set.place, set.bits)).collect::<Vec<_>>();
     assert_eq!(sets(again), sets(case));
+    let memory = |case: &Case| case.memory.clone().map(|(memory, _)| memory);
+    assert_eq!(memory(again), memory(case));
+    let poke = |poke: &PokeLine| (poke.address, poke.bytes.clone());
+    let pokes = |case: &Case| case.pokes.iter().map(poke).collect::<Vec<_>>();
+    assert_eq!(pokes(again), pokes(case));
     assert_eq!(again.channels, case.channels);
     assert_eq!(again.words(), case.words());
     let asks =

@@ -198,7 +198,7 @@ fn answers_of_other_steps_are_not_met() {
 fn random_cases_have_every_kind_of_answer() {
     let mut random = Random(0x0915_0101);
     let mut seen = std::collections::BTreeMap::new();
-    for _ in 0..FILES {
+    for _ in 0..2 * FILES {
         let answers = Cases::random(&mut random).answered().answers;
         for answer in answers.into_iter().flatten().flatten() {
             let kind = match answer.get("answer") {
@@ -209,12 +209,16 @@ fn random_cases_have_every_kind_of_answer() {
             if let Value::Number(refusal) = answer.get("refusal") {
                 *seen.entry(format!("refused {refusal}")).or_insert(0) += 1;
             }
+            if let Value::Number(_) = answer.get("memory") {
+                *seen.entry("transferred in memory".to_string()).or_insert(0) += 1;
+            }
             if let Value::Text(changed) = answer.get("changed") {
                 *seen.entry(format!("changed {changed}")).or_insert(0) += 1;
             }
         }
     }
-    let kinds = "byte, written, triggered, none, top level, interrupt, transferred, returned, reset, \
+    let kinds = "byte, written, triggered, none, top level, interrupt, transferred, \
+                 transferred in memory, returned, reset, \
                  wait acknowledged, wait ended, wait refused, bound within, bound fails, bound refused, \
                  handler bound within, handler bound fails, handler bound refused, \
                  changed pending, changed mode, changed current level, changed top level, changed mask, changed level, \

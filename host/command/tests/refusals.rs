@@ -15,7 +15,7 @@ const CHANNEL: &str = "channel page=9 idcr=240 ivr=241 dcpr=242 dapr=243 data=24
 #[test]
 fn each_number_at_a_step() {
     let dma = format!("set CICR 87h\nset R240.p9 32h\n{CHANNEL}");
-    let memory = format!("{dma}return\narbitrate\n");
+    let address = format!("{dma}return\narbitrate\n");
     let pointer = format!("set R242.p9 E1h\n{dma}return\narbitrate\n");
     // The line counts from the top, where `image zero` is line 1.
     let cases = [
@@ -27,7 +27,7 @@ fn each_number_at_a_step() {
         ("return\nnmi 2\n", 4, 3),
         ("return\nrequest 0\n", 4, 3),
         ("return\nrequest 40\n", 4, 3),
-        (memory.as_str(), 5, 6),
+        (address.as_str(), 5, 6),
         (pointer.as_str(), 6, 7),
         ("return\nstep 0x0006000000000000\n", 7, 3),
         ("return\nstep 0x0002000400000000\n", 7, 3),
@@ -51,8 +51,10 @@ fn assert_refused_at_step_1(scenario: &str, number: u64, line: usize) {
     let quiet = st9(&["run", "-", "--quiet"], scenario).with_code(1).out;
     assert_eq!(quiet.lines().collect::<Vec<_>>(), lines[1..]);
     let tested = st9(&["test", "-"], scenario).with_code(3).out;
-    let told = format!("-:1: failed\n  -:{line}: {words}, and that is not expected\n  {end}\n");
-    assert!(tested.starts_with(&told), "{tested}");
+    let told = format!("-:1: failed\n  -:{line}: {words}, and that is not expected\n  ");
+    assert!(tested.starts_with(&told) && tested.contains(&format!("\n  {end}\n")), "{tested}");
+    let noted = matches!(number, 5 | 6);
+    assert_eq!(tested.contains("\n  note: channel 0: "), noted, "{tested}");
 }
 
 const NO_ACCOUNT: &str = "account  none: the image is refused\n";

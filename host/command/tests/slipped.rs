@@ -1,40 +1,56 @@
-//! Cases that are followed on a model which slips: it changes a byte where it refuses, and an empty run has a last
-//! answer. The proved one cannot.
+//! Cases that are followed on a model which slips: it changes a byte where it refuses, of the memory where it is lent
+//! one, and an empty run has a last answer. The proved one cannot.
 
-use scenario::{follow, Comparison, End, Event, Followed, ImageName, Model, Scenario};
+use scenario::{follow, Comparison, End, Event, Followed, ImageName, Lent, Model, Scenario};
 use st9::{Answer, Bound, Channel, Done, Refusal, RunError, Source, Step, Wait, WaitError};
 
-/// The proved model, but what it refuses flips a bit of EIPR all the same, and an empty run's last answer is a return's.
+/// The proved model, but what it refuses flips a bit of EIPR or of the memory's first byte all the same, and an empty
+/// run's last answer is a return's.
 struct Slipped;
 
-fn slip<T, E>(image: &mut [u8], answer: Result<T, E>) -> Result<T, E> {
-    if answer.is_err() {
-        image[st9::place(0, st9::register::EIPR)] ^= 1;
+fn slip<T, E>(image: &mut [u8], memory: &mut [u8], answer: Result<T, E>) -> Result<T, E> {
+    match (memory.first_mut(), answer.is_err()) {
+        (Some(byte), true) => *byte ^= 1,
+        (None, true) => image[st9::place(0, st9::register::EIPR)] ^= 1,
+        _ => {}
     }
     answer
 }
 
 impl Model for Slipped {
-    fn step(&self, image: &mut [u8], channels: &[Channel], step: Step) -> Result<Answer, Refusal> {
-        let answer = st9::step(image, channels, step);
-        slip(image, answer)
+    fn step(
+        &self,
+        image: &mut [u8],
+        channels: &[Channel],
+        memory: &mut [u8],
+        step: Step,
+    ) -> Result<Answer, Refusal> {
+        let answer = st9::step(image, channels, memory, step);
+        slip(image, memory, answer)
     }
 
-    fn run(&self, image: &mut [u8], channels: &[Channel], words: &[u64]) -> Result<Done, RunError> {
-        let answer = st9::words::run(image, channels, words);
+    fn run(
+        &self,
+        image: &mut [u8],
+        channels: &[Channel],
+        memory: &mut [u8],
+        words: &[u64],
+    ) -> Result<Done, RunError> {
+        let answer = st9::words::run(image, channels, memory, words);
         let answer = answer.map(|done| Done { last: done.last.or(Some(Answer::Returned)), ..done });
-        slip(image, answer)
+        slip(image, memory, answer)
     }
 
     fn wait(
         &self,
         image: &mut [u8],
         channels: &[Channel],
+        memory: &mut [u8],
         source: Source,
         words: &[u64],
     ) -> Result<Wait, WaitError> {
-        let answer = st9::words::wait(image, channels, source, words);
-        slip(image, answer)
+        let answer = st9::words::wait(image, channels, memory, source, words);
+        slip(image, memory, answer)
     }
 
     fn bound(
@@ -67,7 +83,9 @@ fn followed(text: &str) -> (Followed, Vec<Comparison>) {
     let case = Scenario::parse(text.as_bytes()).expect("a scenario").cases.remove(0);
     let ImageName::Fill { byte, length } = case.image.0 else { panic!("{text}") };
     let mut comparisons = vec![];
-    let followed = follow(&case, vec![byte; length], &Slipped, &mut |event| {
+    let memory = case.memory(|name| Err(name.to_string())).expect("no file");
+    let start = Lent { image: vec![byte; length], memory };
+    let followed = follow(&case, start, &Slipped, &mut |event| {
         if let Event::Compared(comparison) = event {
             comparisons.push(comparison.clone());
         }
@@ -155,6 +173,20 @@ fn what_is_lent() {
         let twice = format!("arbitrate\nexpect refused {number}\n").repeat(2);
         assert_eq!(assert_met(&format!("{lent}{twice}"), &[false, false]).refused, 2);
     }
+}
+
+/// A byte of the memory is seen as one of the image is: by a refusal, and by all the bytes that changed.
+#[test]
+fn of_the_memory() {
+    let start = "image zero\nmemory 3\nread R256\n";
+    let expectations =
+        "expect refused 3\nexpect changed M0000h 00h -> 01h\nexpect changed nothing\nexpect EIPR 0\n";
+    let (followed, comparisons) = followed(&format!("{start}{expectations}"));
+    let met: Vec<_> = comparisons.iter().map(|comparison| comparison.met).collect();
+    assert_eq!(met, [false, true, false, true]);
+    assert!(comparisons[0].came.ends_with(", and changed M0000h 00h -> 01h"), "{comparisons:?}");
+    assert_eq!(comparisons[2].came, "changed M0000h 00h -> 01h");
+    assert_eq!((followed.left.memory, followed.end), (vec![1, 0, 0], End::Done));
 }
 
 #[test]

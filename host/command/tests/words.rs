@@ -1,6 +1,6 @@
 //! Answers in words: nothing here calls the model.
 
-use scenario::{statement, Bounds, Claim, Claimed, List, Names, Report, Statement, StepLine};
+use scenario::{statement, Bounds, Claim, Claimed, Lent, List, Names, Report, Statement, StepLine};
 use st9::Effect::{Merged, NotSelected, Raised};
 use st9::{Answer, Basis, Bound, Channel, Effect, Premise, Refusal, Source};
 
@@ -43,8 +43,13 @@ fn told_between(
     answer: Result<Answer, Refusal>,
 ) -> String {
     let step = step(line);
-    let (before, after, names) = (&before, &after, &Names::default());
+    let (before, after, names) = (&lent(before), &lent(after), &Names::default());
     Report { index: 4, step, answer, before, after, channels: &[CHANNEL], names }.words()
+}
+
+/// An image beside a memory of sixteen bytes.
+fn lent(image: Image) -> Lent {
+    Lent { image: image.to_vec(), memory: vec![0; 16] }
 }
 
 /// The image with a byte replaced.
@@ -121,7 +126,7 @@ fn refused_steps() {
     let selected = format!("{words} (R246 page 9: PPR selects it)");
     assert_eq!(told("read EIVR", page_9(), refused), selected);
     assert_eq!(told("read R256", page_9(), refused), words);
-    let (image, names) = (&page_0(), &Names::default());
+    let (image, names) = (&lent(page_0()), &Names::default());
     let step = step("read R256");
     let report = Report {
         index: 4,
@@ -213,8 +218,10 @@ fn arbitrations_and_resets() {
         (moved, "DMA of channel 0: one byte moved"),
         (ended, "DMA of channel 0: one byte moved, block ended"),
     ];
+    // DCPR of the record is odd: its transfers are those of the register file.
+    let image = with(page_0(), 386, 0x11);
     for (answer, words) in expected {
-        assert_eq!(told("arbitrate", page_0(), Ok(answer)), words);
+        assert_eq!(told("arbitrate", image, Ok(answer)), words);
     }
     assert_eq!(told("reset", page_0(), Ok(Answer::Reset)), "reset");
 }

@@ -1,4 +1,4 @@
-//! One image, lent to the exports and to the plain model.
+//! One image and one memory, lent to the exports and to the plain model.
 
 use crate::flat;
 use crate::lent::Lent;
@@ -16,25 +16,29 @@ type PlainBound = fn(&[u8], &[Channel], u32, &[u64]) -> Bounded;
 type ExportedBound =
     unsafe extern "C" fn(*const u8, usize, *const u8, usize, u32, *const u64, usize) -> sys::Answer;
 
-/// An image and a channel list on both sides. Each call is made on both and panics where they differ.
+/// An image, a channel list and a memory on both sides. Each call is made on both and panics where they differ.
 pub struct Pair {
     image: Lent<u8>,
     list: Lent<u8>,
+    memory: Lent<u8>,
     plain_image: Vec<u8>,
     plain_list: Vec<u8>,
+    plain_memory: Vec<u8>,
     /// The records; none where the bytes are no whole number of records, which the model can't say.
     channels: Option<Vec<Channel>>,
     name: String,
 }
 
 impl Pair {
-    /// An image and the bytes of a list; the name is said where the two differ.
-    pub fn new(name: String, image: &[u8], list: &[u8]) -> Pair {
+    /// An image, the bytes of a list and a memory; the name is said where the two differ.
+    pub fn new(name: String, image: &[u8], list: &[u8], memory: &[u8]) -> Pair {
         Pair {
             image: Lent::new(image, GUARD),
             list: Lent::new(list, GUARD),
+            memory: Lent::new(memory, GUARD),
             plain_image: image.to_vec(),
             plain_list: list.to_vec(),
+            plain_memory: memory.to_vec(),
             channels: records(list),
             name,
         }
@@ -45,6 +49,11 @@ impl Pair {
         &self.plain_image
     }
 
+    /// The memory as it stands.
+    pub fn memory(&self) -> &[u8] {
+        &self.plain_memory
+    }
+
     /// The records of the list; none where its bytes are no whole number of records.
     pub fn channels(&self) -> &[Channel] {
         self.channels.as_deref().unwrap_or_default()
@@ -53,7 +62,12 @@ impl Pair {
     /// One step on both.
     pub fn step(&mut self, word: u64) -> sys::Answer {
         let expected = match &self.channels {
-            Some(channels) => flat::step(model::step(&mut self.plain_image, channels, word)),
+            Some(channels) => flat::step(model::step(
+                &mut self.plain_image,
+                channels,
+                &mut self.plain_memory,
+                word,
+            )),
             None => sys::Answer { kind: sys::REFUSED, ..self.broken_list() },
         };
         // SAFETY: the lengths are those of the lent parts, which are apart and which nobody else has.
@@ -63,6 +77,8 @@ impl Pair {
                 self.image.len(),
                 self.list.pointer(),
                 self.list.len(),
+                self.memory.pointer(),
+                self.memory.len(),
                 word,
             )
         };
@@ -72,7 +88,12 @@ impl Pair {
     /// A run on both.
     pub fn run(&mut self, words: &[u64]) -> sys::Answer {
         let expected = match &self.channels {
-            Some(channels) => flat::run(model::run(&mut self.plain_image, channels, words)),
+            Some(channels) => flat::run(model::run(
+                &mut self.plain_image,
+                channels,
+                &mut self.plain_memory,
+                words,
+            )),
             None => self.broken_list(),
         };
         let mut lent = Lent::new(words, u64::MAX);
@@ -83,6 +104,8 @@ impl Pair {
                 self.image.len(),
                 self.list.pointer(),
                 self.list.len(),
+                self.memory.pointer(),
+                self.memory.len(),
                 lent.pointer(),
                 lent.len(),
             )
@@ -94,9 +117,13 @@ impl Pair {
     /// A wait report on both.
     pub fn wait(&mut self, source: u32, words: &[u64]) -> sys::Answer {
         let expected = match &self.channels {
-            Some(channels) => {
-                flat::wait(model::wait(&mut self.plain_image, channels, source, words))
-            }
+            Some(channels) => flat::wait(model::wait(
+                &mut self.plain_image,
+                channels,
+                &mut self.plain_memory,
+                source,
+                words,
+            )),
             None => self.broken_list(),
         };
         let mut lent = Lent::new(words, u64::MAX);
@@ -107,6 +134,8 @@ impl Pair {
                 self.image.len(),
                 self.list.pointer(),
                 self.list.len(),
+                self.memory.pointer(),
+                self.memory.len(),
                 source,
                 lent.pointer(),
                 lent.len(),
@@ -131,7 +160,7 @@ impl Pair {
         )
     }
 
-    /// Either bound on both. The plain image can't change, so the comparison sees that the lent one doesn't.
+    /// Either bound on both. The plain image and memory can't change, so the comparison sees that the lent ones don't.
     fn bounded(
         &mut self,
         call: &str,
@@ -171,11 +200,11 @@ impl Pair {
         // SAFETY: as for a step.
         let given = unsafe { sys::st9_view_number(self.image.pointer(), self.image.len(), page) };
         assert_eq!(given, expected, "{}: view of page {page}", self.name);
-        assert!(self.same_memory(), "{}: view of page {page}", self.name);
+        assert!(self.same_bytes(), "{}: view of page {page}", self.name);
         given
     }
 
-    /// The answer to bytes that are no whole number of records: 2, after 1.
+    /// The answer to bytes that are no whole number of records: 2, after 1 and before 8.
     fn broken_list(&self) -> sys::Answer {
         flat::refused_call(match self.plain_image.len() {
             IMAGE_LENGTH => Refusal::BadList,
@@ -189,15 +218,17 @@ impl Pair {
         assert!(same, "{}: the words were written", self.name);
     }
 
-    /// Whether both images are the same, the list is as it was, and nothing beside them was written.
-    fn same_memory(&self) -> bool {
+    /// Whether both images and both memories are the same, the list is as it was, and nothing beside them was written.
+    fn same_bytes(&self) -> bool {
         self.image.content() == self.plain_image
+            && self.memory.content() == self.plain_memory
             && self.list.content() == self.plain_list
             && self.image.is_guarded()
+            && self.memory.is_guarded()
             && self.list.is_guarded()
     }
 
-    /// Panics unless both answers and all memory are the same; gives the answer.
+    /// Panics unless both answers and all bytes are the same; gives the answer.
     fn compare(
         &self,
         call: &str,
@@ -205,7 +236,7 @@ impl Pair {
         expected: sys::Answer,
         given: sys::Answer,
     ) -> sys::Answer {
-        if given != expected || !self.same_memory() {
+        if given != expected || !self.same_bytes() {
             self.fail(call, words, expected, given);
         }
         given
@@ -213,23 +244,28 @@ impl Pair {
 
     /// Says what differs.
     fn fail(&self, call: &str, words: &[u64], expected: sys::Answer, given: sys::Answer) -> ! {
-        let lent = self.image.content().iter();
-        let bytes: Vec<String> = lent
-            .zip(&self.plain_image)
-            .enumerate()
-            .filter(|(_, (lent, plain))| lent != plain)
-            .map(|(place, (lent, plain))| format!("byte {place}: {lent:02X} for {plain:02X}"))
-            .collect();
         let rest = self.list.content() == self.plain_list && self.list.is_guarded();
         panic!(
-            "{}: {call}\nwords {words:016X?}\nlist {:?}\nexpected {expected:?}\ngiven    {given:?}\n{}\nguards {}, list {}",
+            "{}: {call}\nwords {words:016X?}\nlist {:?}\nmemory of {} bytes\nexpected {expected:?}\ngiven    {given:?}\nimage {}\nmemory {}\nguards {}, list {}",
             self.name,
             self.plain_list,
-            bytes.join(", "),
-            self.image.is_guarded(),
+            self.plain_memory.len(),
+            differences(self.image.content(), &self.plain_image),
+            differences(self.memory.content(), &self.plain_memory),
+            self.image.is_guarded() && self.memory.is_guarded(),
             rest,
         );
     }
+}
+
+/// The bytes that differ from the plain ones.
+fn differences(lent: &[u8], plain: &[u8]) -> String {
+    let bytes = lent.iter().zip(plain).enumerate();
+    let said: Vec<String> = bytes
+        .filter(|(_, (lent, plain))| lent != plain)
+        .map(|(place, (lent, plain))| format!("byte {place}: {lent:02X} for {plain:02X}"))
+        .collect();
+    said.join(", ")
 }
 
 /// The records of a list's bytes, if they are a whole number of records.

@@ -36,6 +36,14 @@ pub fn rank(image: &[u8], channels: &[Channel], source: u32) -> (u8, u32) {
     (level, source)
 }
 
+/// The record whose DMA comes first: with IP and DM, above the current level, the smallest level and then the first.
+pub fn first_dma(image: &[u8], channels: &[Channel]) -> Option<usize> {
+    let idcr = |record: usize| image[paged(channels[record].page, channels[record].idcr)];
+    let requests =
+        |record: &usize| idcr(*record) & 0x30 == 0x30 && idcr(*record) & 7 < image[230] & 7;
+    (0..channels.len()).filter(requests).min_by_key(|record| (idcr(*record) & 7, *record))
+}
+
 /// Whether IEN is 1.
 pub fn is_enabled(image: &[u8]) -> bool {
     image[230] & 0x10 != 0

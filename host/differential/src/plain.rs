@@ -12,12 +12,24 @@ use st9::{
 pub struct Plain;
 
 impl Model for Plain {
-    fn step(&self, image: &mut [u8], channels: &[Channel], step: Step) -> Result<Answer, Refusal> {
-        answer(model::step(image, &records(channels), step.word()))
+    fn step(
+        &self,
+        image: &mut [u8],
+        channels: &[Channel],
+        memory: &mut [u8],
+        step: Step,
+    ) -> Result<Answer, Refusal> {
+        answer(model::step(image, &records(channels), memory, step.word()))
     }
 
-    fn run(&self, image: &mut [u8], channels: &[Channel], words: &[u64]) -> Result<Done, RunError> {
-        match model::run(image, &records(channels), words) {
+    fn run(
+        &self,
+        image: &mut [u8],
+        channels: &[Channel],
+        memory: &mut [u8],
+        words: &[u64],
+    ) -> Result<Done, RunError> {
+        match model::run(image, &records(channels), memory, words) {
             Ran::NoSteps => Ok(Done { steps: 0, last: None }),
             Ran::Done { steps, last } => match answer(last) {
                 Ok(last) => Ok(Done { steps, last: Some(last) }),
@@ -34,10 +46,11 @@ impl Model for Plain {
         &self,
         image: &mut [u8],
         channels: &[Channel],
+        memory: &mut [u8],
         source: Source,
         words: &[u64],
     ) -> Result<Wait, WaitError> {
-        match model::wait(image, &records(channels), source.0, words) {
+        match model::wait(image, &records(channels), memory, source.0, words) {
             Waited::Ended { arbitrations } => Ok(Wait::Ended { arbitrations: arbitrations as u64 }),
             Waited::Acknowledged { arbitrations } => {
                 Ok(Wait::Acknowledged { arbitrations: arbitrations as u64 })
@@ -153,14 +166,7 @@ fn effect(plain: model::Effect) -> Effect {
     }
 }
 
+/// By its number, which both have from the papers.
 fn refusal(plain: model::Refusal) -> Refusal {
-    match plain {
-        model::Refusal::BadLength => Refusal::ImageLength,
-        model::Refusal::BadList => Refusal::ChannelList,
-        model::Refusal::BadRegister => Refusal::Register,
-        model::Refusal::BadNumber => Refusal::Number,
-        model::Refusal::MemoryTransfer => Refusal::MemoryTransfer,
-        model::Refusal::BadPointer => Refusal::Pointer,
-        model::Refusal::UnknownKind => Refusal::UnknownKind,
-    }
+    Refusal::from_number(plain.number()).expect("a refusal of the papers")
 }

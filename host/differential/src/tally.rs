@@ -18,6 +18,9 @@ pub enum Call {
 /// The kinds of answers.
 const KINDS: usize = sys::CHANGED as usize + 1;
 
+/// The numbers of refusals, and 0 for none.
+const REFUSALS: usize = 9;
+
 /// What a write can change of that which a handlers' bound rests on, numbered from 1.
 const BASES: usize = sys::CHANGED_LEVEL as usize;
 
@@ -37,12 +40,14 @@ impl Call {
         }
     }
 
-    /// The kinds and numbers that the call can be refused with. A step in a run is never refused with 1 or 2.
+    /// The kinds and numbers that the call can be refused with. A step in a run is never refused with 1, 2 or 8.
     fn refusals(self) -> Refusals {
         match self {
-            Call::Step => &[(sys::REFUSED, &[1, 2, 3, 4, 5, 6, 7])],
-            Call::Run => &[(sys::REFUSED_CALL, &[1, 2]), (sys::REFUSED_STEP, &[3, 4, 5, 6, 7])],
-            Call::Wait => &[(sys::REFUSED_CALL, &[1, 2, 4]), (sys::REFUSED_STEP, &[3, 4, 5, 6, 7])],
+            Call::Step => &[(sys::REFUSED, &[1, 2, 3, 4, 5, 6, 7, 8])],
+            Call::Run => &[(sys::REFUSED_CALL, &[1, 2, 8]), (sys::REFUSED_STEP, &[3, 4, 5, 6, 7])],
+            Call::Wait => {
+                &[(sys::REFUSED_CALL, &[1, 2, 4, 8]), (sys::REFUSED_STEP, &[3, 4, 5, 6, 7])]
+            }
             Call::Bound | Call::HandlerBound => &[(sys::REFUSED_CALL, &[1, 2, 4])],
             Call::View => &[(0, &[1, 3])],
         }
@@ -64,7 +69,7 @@ impl Call {
 pub struct Tally {
     call: Call,
     /// By kind and refusal.
-    answers: [[u64; 8]; KINDS],
+    answers: [[u64; REFUSALS]; KINDS],
     /// The steps that were tried: those done and those refused by their own number.
     pub steps: u64,
     /// Interrupts by source and by level, triggers by their two effects.
@@ -79,7 +84,7 @@ impl Tally {
     pub fn new(call: Call) -> Tally {
         Tally {
             call,
-            answers: [[0; 8]; KINDS],
+            answers: [[0; REFUSALS]; KINDS],
             steps: 0,
             sources: [0; 20],
             levels: [0; 7],
@@ -101,7 +106,7 @@ impl Tally {
             _ => {}
         }
         self.steps += match (self.call, answer.kind) {
-            (Call::Step, _) => u64::from(!matches!(answer.refusal, 1 | 2)),
+            (Call::Step, _) => u64::from(!matches!(answer.refusal, 1 | 2 | 8)),
             (Call::Run, sys::REFUSED_STEP) => answer.steps + 1,
             (Call::Run, _) => answer.steps,
             _ => 0,

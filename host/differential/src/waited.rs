@@ -5,12 +5,13 @@ use crate::{flat, Pair};
 use model::Channel;
 use st9::sys;
 
-/// An image and a channel list that calls are made on.
+/// An image, a channel list and a memory that calls are made on.
 pub trait Calls {
     fn step(&mut self, word: u64) -> sys::Answer;
     fn wait(&mut self, source: u32, words: &[u64]) -> sys::Answer;
-    /// The image as it stands.
+    /// The image and the memory as they stand.
     fn image(&self) -> &[u8];
+    fn memory(&self) -> &[u8];
     fn channels(&self) -> &[Channel];
 }
 
@@ -27,6 +28,10 @@ impl Calls for Pair {
         Pair::image(self)
     }
 
+    fn memory(&self) -> &[u8] {
+        Pair::memory(self)
+    }
+
     fn channels(&self) -> &[Channel] {
         Pair::channels(self)
     }
@@ -35,26 +40,31 @@ impl Calls for Pair {
 /// The plain model alone.
 pub struct Alone {
     image: Vec<u8>,
+    memory: Vec<u8>,
     channels: Vec<Channel>,
 }
 
 impl Alone {
-    pub fn new(image: &[u8], channels: &[Channel]) -> Alone {
-        Alone { image: image.to_vec(), channels: channels.to_vec() }
+    pub fn new(image: &[u8], channels: &[Channel], memory: &[u8]) -> Alone {
+        Alone { image: image.to_vec(), memory: memory.to_vec(), channels: channels.to_vec() }
     }
 }
 
 impl Calls for Alone {
     fn step(&mut self, word: u64) -> sys::Answer {
-        flat::step(model::step(&mut self.image, &self.channels, word))
+        flat::step(model::step(&mut self.image, &self.channels, &mut self.memory, word))
     }
 
     fn wait(&mut self, source: u32, words: &[u64]) -> sys::Answer {
-        flat::wait(model::wait(&mut self.image, &self.channels, source, words))
+        flat::wait(model::wait(&mut self.image, &self.channels, &mut self.memory, source, words))
     }
 
     fn image(&self) -> &[u8] {
         &self.image
+    }
+
+    fn memory(&self) -> &[u8] {
+        &self.memory
     }
 
     fn channels(&self) -> &[Channel] {

@@ -44,9 +44,10 @@ impl Followed<'_> {
         (by(self.source), by(awaited))
     }
 
-    /// After a call the image is that of the steps done.
+    /// After a call the image and the memory are those of the steps done.
     fn check(&mut self) {
         assert_eq!(self.pair.image(), self.alone.image(), "{:x?}", self.done);
+        assert!(self.pair.memory() == self.alone.memory(), "{:x?}", self.done);
         let pending = places::is_pending(self.pair.image(), self.pair.channels(), self.source);
         self.kept &= self.acknowledged || pending;
     }

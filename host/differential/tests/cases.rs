@@ -2,7 +2,7 @@
 
 use differential::Plain;
 use scenario::{
-    follow, Ask, Asked, Call, Case, Comparison, Event, Expected, Followed, Model, Proved,
+    follow, Ask, Asked, Call, Case, Comparison, Event, Expected, Followed, Lent, Model, Proved,
     RefusedAt, Scenario,
 };
 use st9::text::counted;
@@ -13,7 +13,7 @@ use std::path::{Path, PathBuf};
 
 /// What `cases/` holds, so that a case that gets lost is seen.
 const TOTALS: Totals =
-    Totals { files: 23, cases: 759, distinct: 754, steps: 5014, calls: 626, expectations: 2208 };
+    Totals { files: 24, cases: 879, distinct: 874, steps: 5253, calls: 674, expectations: 2627 };
 
 #[derive(Debug, Default, PartialEq, Eq)]
 struct Totals {
@@ -26,11 +26,11 @@ struct Totals {
     expectations: usize,
 }
 
-/// A case, where it stands and the image that it starts from.
+/// A case, where it stands, and the image and the memory that it starts from.
 struct Start {
     file: String,
     case: Case,
-    image: Vec<u8>,
+    lent: Lent,
 }
 
 fn folder() -> PathBuf {
@@ -64,7 +64,9 @@ fn starts_of(path: &Path) -> Vec<Start> {
             .bytes(|name| fs::read(folder().join(name)))
             .unwrap_or_else(|error| panic!("{file}:{line}: {error}"));
         case.store(&mut image, |_, _| ());
-        Start { file: file.clone(), case, image }
+        let memory = case.memory(|name| fs::read(folder().join(name)));
+        let memory = memory.unwrap_or_else(|error| panic!("{file}:{error}"));
+        Start { file: file.clone(), case, lent: Lent { image, memory } }
     };
     scenario.cases.into_iter().map(start).collect()
 }
@@ -77,7 +79,7 @@ impl Start {
     }
 
     fn followed(&self, model: &impl Model, tell: &mut impl FnMut(Event)) -> Followed {
-        follow(&self.case, self.image.clone(), model, tell)
+        follow(&self.case, self.lent.clone(), model, tell)
     }
 
     /// All that is not as the case expects.
@@ -106,31 +108,36 @@ impl Start {
         failures
     }
 
-    /// The images that the calls leave, and that of the end, each with its line.
-    fn images(&self, model: &impl Model) -> Vec<(u32, Vec<u8>)> {
-        let mut images = Vec::new();
+    /// What the calls leave, and what is left at the end, each with its line.
+    fn left(&self, model: &impl Model) -> Vec<(u32, Lent)> {
+        let mut left = Vec::new();
         let followed = self.followed(model, &mut |event| {
             if let Event::Call(report, _) = event {
-                images.push((report.line, report.after.clone()));
+                left.push((report.line, report.after.clone()));
             }
         });
         let last = self.case.steps.last().map_or(self.case.line as u32, |step| step.line);
-        images.push((last, followed.image));
-        images
+        left.push((last, followed.left));
+        left
     }
 
     /// Where the plain model leaves other bytes than the proved one.
     fn differences(&self) -> Vec<String> {
-        let (plain, proved) = (self.images(&Plain), self.images(&Proved));
+        let (plain, proved) = (self.left(&Plain), self.left(&Proved));
         let mut differences = Vec::new();
         if plain.len() != proved.len() {
             differences.push(self.failure(self.case.line as u64, "one model made more calls"));
         }
         for ((line, plain), (_, proved)) in plain.iter().zip(&proved) {
-            let place = plain.iter().zip(proved).position(|(plain, proved)| plain != proved);
-            if let Some(place) = place {
-                let bytes = format!("plain {:02X}h, proved {:02X}h", plain[place], proved[place]);
-                differences.push(self.failure(*line, &format!("byte {place}: {bytes}")));
+            let parts =
+                [("image", &plain.image, &proved.image), ("memory", &plain.memory, &proved.memory)];
+            for (name, plain, proved) in parts {
+                let place = plain.iter().zip(proved).position(|(plain, proved)| plain != proved);
+                if let Some(place) = place {
+                    let bytes =
+                        format!("plain {:02X}h, proved {:02X}h", plain[place], proved[place]);
+                    differences.push(self.failure(*line, &format!("{name} {place}: {bytes}")));
+                }
             }
         }
         differences
@@ -232,8 +239,9 @@ fn refusal_open(of: Of, at: Option<RefusedAt>, made: Option<u64>) -> Option<&'st
 
 /// What no expectation is about: the answer, or the bytes that changed where some may.
 fn missing(of: Of, expected: &[&Expected]) -> Option<&'static str> {
-    let bytes =
-        |expected: &&&Expected| matches!(expected, Expected::Changed(_) | Expected::Stored { .. });
+    let bytes = |expected: &&&Expected| {
+        matches!(expected, Expected::Changed(_) | Expected::Stored { .. } | Expected::Memory { .. })
+    };
     let Some(answer) = expected.iter().find(|expected| !bytes(expected)) else {
         return Some("the answer");
     };
@@ -279,13 +287,14 @@ fn leave_nothing_open() {
 fn none_is_lost() {
     let mut totals = Totals { files: files().len(), ..Totals::default() };
     let mut distinct = HashSet::new();
-    for Start { case, image, .. } in starts() {
+    for Start { case, lent, .. } in starts() {
         totals.cases += 1;
         totals.steps += case.steps.len();
         totals.expectations += case.expectations();
         totals.calls += case.asks.len() - case.expectations();
         let asked = case.asks.iter().map(|ask| format!("{:?}", ask.what)).collect::<Vec<_>>();
-        distinct.insert((image, format!("{:?}", case.channels), case.words(), asked));
+        let Lent { image, memory } = lent;
+        distinct.insert((image, memory, format!("{:?}", case.channels), case.words(), asked));
     }
     totals.distinct = distinct.len();
     assert_eq!(totals, TOTALS);

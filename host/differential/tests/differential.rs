@@ -6,10 +6,10 @@ use differential::generate::{self, Flavour};
 use differential::{Call, Claim, Pair, Random, Start, Tally, Waited};
 use st9::sys;
 
-/// The steps that are tried at least, in single steps and in runs: three million in all.
-const SINGLE_STEPS: u64 = 1_800_000;
-const RUN_STEPS: u64 = 1_200_000;
-const _: () = assert!(SINGLE_STEPS + RUN_STEPS >= 2_000_000);
+/// The steps that are tried at least, in single steps and in runs: four million in all.
+const SINGLE_STEPS: u64 = 2_500_000;
+const RUN_STEPS: u64 = 1_500_000;
+const _: () = assert!(SINGLE_STEPS + RUN_STEPS >= 3_000_000);
 
 #[test]
 fn steps() {
@@ -106,11 +106,11 @@ fn views() {
     let mut random = Random::new(5);
     let mut tally = Tally::new(Call::View);
     for number in 0..20_000 {
-        let mut image = generate::image(&mut random, &[]);
+        let mut image = generate::image(&mut random, &[], 0);
         if random.chance(1, 8) {
             image = generate::damaged_image(&mut random);
         }
-        let mut pair = Pair::new(format!("view {number}"), &image, &[]);
+        let mut pair = Pair::new(format!("view {number}"), &image, &[], &[]);
         tally.count_view(pair.view_number(generate::page(&mut random)));
     }
     print!("{tally}");
@@ -124,13 +124,15 @@ fn every_small_word() {
     let channels = generate::list(&mut random, 12);
     let list = generate::bytes(&channels);
     for round in 0..4 {
-        let image = generate::image(&mut random, &channels);
+        let memory = [7; 300];
+        let image = generate::image(&mut random, &channels, memory.len());
         for kind in 0..8 {
             for trigger in 0..6 {
                 for first in (0..20).chain(224..258) {
                     for second in 0..3 {
                         let word = model::word::word(kind, trigger, first, second);
-                        Pair::new(format!("word, round {round}"), &image, &list).step(word);
+                        let name = format!("word, round {round}");
+                        Pair::new(name, &image, &list, &memory).step(word);
                     }
                 }
             }
@@ -159,7 +161,7 @@ fn every_cicr_and_idcr() {
         for counter in [1, 2] {
             (image[16], image[17]) = (20, counter);
             let name = format!("CICR {cicr:02X}, IDCR {idcr:02X}, counter {counter}");
-            Pair::new(name, &image, &RECORD).step(model::word::arbitrate());
+            Pair::new(name, &image, &RECORD, &[]).step(model::word::arbitrate());
         }
     }
 }
@@ -172,14 +174,14 @@ fn every_cicr_and_nicr() {
     for (cicr, nicr) in all_pairs() {
         (image[230], image[247]) = (cicr, nicr);
         let name = format!("CICR {cicr:02X}, NICR {nicr:02X}");
-        let mut pair = Pair::new(name, &image, &[]);
+        let mut pair = Pair::new(name, &image, &[], &[]);
         pair.step(model::word::arbitrate());
         pair.step(model::word::return_from());
         pair.step(model::word::return_from());
     }
 }
 
-/// Every DCPR with every address, in both directions.
+/// Every DCPR with every address in the register file, in both directions; an even DCPR has its address in R0 and R1.
 #[test]
 fn every_dcpr_and_address() {
     for (dcpr, address) in all_pairs() {
@@ -193,7 +195,7 @@ fn every_dcpr_and_address() {
             let mut record = RECORD;
             record[6] = direction;
             let name = format!("DCPR {dcpr:02X}, address {address:02X}, direction {direction}");
-            Pair::new(name, &image, &record).step(model::word::arbitrate());
+            Pair::new(name, &image, &record, &[7; 300]).step(model::word::arbitrate());
         }
     }
 }

@@ -78,7 +78,7 @@ fn every_write() {
         {
             let words = [word::write(register, value), word::return_from(), word::arbitrate()];
             let name = format!("page {page}, R{register} {value:02X}h");
-            tally.count(Pair::new(name, &image, &record).handler_bound(source, &words));
+            tally.count(Pair::new(name, &image, &record, &[]).handler_bound(source, &words));
         }
     }
     print!("{tally}");

@@ -35,8 +35,9 @@ fn every_register_of_every_page() {
         let pages: HashSet<u8> = channels.iter().map(|channel| channel.page).collect();
         met.shared += usize::from(pages.len() < channels.len());
         met.apart += usize::from(pages.len() == 12);
-        let image = generate::image(&mut random, &channels);
-        let mut pair = Pair::new(format!("list {number}"), &image, &generate::bytes(&channels));
+        let image = generate::image(&mut random, &channels, 0);
+        let list = generate::bytes(&channels);
+        let mut pair = Pair::new(format!("list {number}"), &image, &list, &[]);
         for page in 0..64 {
             pair.step(word::write(register::PPR.into(), 4 * page));
             for number in 240..=255 {
@@ -112,7 +113,7 @@ fn every_request_of_three_records_and_two_channels() {
                         .map(|b| b as u8);
                     let image = image(cicr, eiplr, eipr, eimr, &channels, idcrs);
                     let name = format!("CICR {cicr:02X}h, EIPLR {eiplr:02X}h, {externals}, {bits}");
-                    let answer = Pair::new(name, &image, &list).step(word::arbitrate());
+                    let answer = Pair::new(name, &image, &list, &[]).step(word::arbitrate());
                     *met.of(answer, eipr, eipr & eimr, idcrs) += 1;
                     made += 1;
                 }

@@ -1,6 +1,6 @@
 //! What is answered: of a step, a run, a wait report and a bound.
 
-/// The refusals of document 01, with their numbers.
+/// The refusals of document 01 and of request §1, with their numbers.
 #[derive(Clone, Copy, Debug, PartialEq, Eq, Hash)]
 pub enum Refusal {
     /// The image's length is not 1,265.
@@ -11,16 +11,18 @@ pub enum Refusal {
     BadRegister = 3,
     /// A pin over 7, a direction over 1, a record or source that isn't there.
     BadNumber = 4,
-    /// The DMA winner has DCPR bit 0 = 0 (memory).
-    MemoryTransfer = 5,
-    /// The DMA winner has its pair or its address over 223.
+    /// The DMA winner's memory address is not below the memory's length.
+    BadAddress = 5,
+    /// The DMA winner has its pair or its address over 223; on the memory path either pointer over 222.
     BadPointer = 6,
     /// A step or trigger of unknown kind.
     UnknownKind = 7,
+    /// The memory is longer than 65,536 bytes.
+    BadMemory = 8,
 }
 
 impl Refusal {
-    /// The number of document 01's table.
+    /// The papers' number.
     pub fn number(self) -> u64 {
         self as u64
     }

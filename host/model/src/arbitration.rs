@@ -27,7 +27,11 @@ struct Request {
 }
 
 /// An arbitration: the mark, then the top level, then the first eligible request.
-pub(crate) fn arbitrate(image: &mut Image, channels: &[Channel]) -> Result<Answer, Refusal> {
+pub(crate) fn arbitrate(
+    image: &mut Image,
+    channels: &[Channel],
+    memory: &mut [u8],
+) -> Result<Answer, Refusal> {
     if in_service(image) {
         return Ok(Answer::Nothing);
     }
@@ -40,7 +44,7 @@ pub(crate) fn arbitrate(image: &mut Image, channels: &[Channel]) -> Result<Answe
         None => Ok(Answer::Nothing),
         Some(request) => match request.service {
             Service::Interrupt => Ok(acknowledge(image, channels, request)),
-            Service::Dma => serve(image, channels, request.source),
+            Service::Dma => serve(image, channels, memory, request.source),
         },
     }
 }
@@ -127,9 +131,14 @@ fn acknowledge(image: &mut Image, channels: &[Channel], request: Request) -> Ans
 }
 
 /// DMA won: the transfer of the record.
-fn serve(image: &mut Image, channels: &[Channel], source: u8) -> Result<Answer, Refusal> {
+fn serve(
+    image: &mut Image,
+    channels: &[Channel],
+    memory: &mut [u8],
+    source: u8,
+) -> Result<Answer, Refusal> {
     let channel = &channels[usize::from(source - EXTERNAL_CHANNELS)];
-    let ended = dma::transfer(image, channel)?;
+    let ended = dma::transfer(image, memory, channel)?;
     Ok(Answer::Transferred { source, ended })
 }
 

@@ -88,14 +88,14 @@ fn failed_at_start(image: &Image, channels: &[Channel], ours: u8) -> Option<Boun
 }
 
 /// Follows the list to its end and counts E, the triggers of outranking sources. Fails at the first step of another kind, else at the first
-/// arbitration with IEN = 0. Refused steps are passed over.
+/// arbitration with IEN = 0. Refused steps are passed over. No record has DM = 1, so the memory doesn't matter and is empty.
 fn count_triggers(start: Start, channels: &[Channel], words: &[u64]) -> Result<usize, Bounded> {
     let Start { mut image, outranking, .. } = start;
     let mut triggers = 0;
     let mut disabled = None;
     for (index, &word) in words.iter().enumerate() {
         let enabled = has(&image, CICR, IEN);
-        let Ok((step, answer)) = attempt(&mut image, channels, word) else {
+        let Ok((step, answer)) = attempt(&mut image, channels, &mut [], word) else {
             continue;
         };
         match step {

@@ -9,7 +9,7 @@ pub const MOST_CHANNELS: usize = 12;
 /// The external channels, which stand before the records in the daisy chain.
 pub(crate) const EXTERNAL_CHANNELS: u8 = 8;
 
-/// A record of the channel list: a page (1 to 63), five registers there (240 to 255), and a direction (0: peripheral to register file).
+/// A record of the channel list: a page (1 to 63), five registers there (240 to 255), and a direction (0: from the peripheral).
 #[derive(Clone, Copy, Debug, PartialEq, Eq, Hash)]
 pub struct Channel {
     pub page: u8,

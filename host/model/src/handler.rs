@@ -12,13 +12,13 @@ pub fn handler_bound(image: &[u8], channels: &[Channel], named: u32, words: &[u6
 }
 
 /// Follows the list up to the acknowledgement and counts E, the triggers of outranking sources and the pending bits of such that writes raise. Fails at
-/// the first step that breaks a premise. Refused steps are passed over.
+/// the first step that breaks a premise. Refused steps are passed over. No record gets DM = 1, so the memory doesn't matter and is empty.
 fn count_events(start: Start, channels: &[Channel], words: &[u64]) -> Result<usize, Bounded> {
     let Start { mut image, ours, outranking, .. } = start;
     let mut events = 0;
     for (index, &word) in words.iter().enumerate() {
         let before = image;
-        let Ok((step, answer)) = attempt(&mut image, channels, word) else {
+        let Ok((step, answer)) = attempt(&mut image, channels, &mut [], word) else {
             continue;
         };
         match step {

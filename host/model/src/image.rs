@@ -9,8 +9,12 @@ pub const MARK: usize = 1264;
 /// An image of the right length.
 pub(crate) type Image = [u8; IMAGE_LENGTH];
 
-/// The last register that a transfer may reach.
+/// The most bytes of a memory: all that a 16-bit address reaches.
+pub const MOST_MEMORY: usize = 1 << 16;
+
+/// The last register that a transfer may reach, and the first of the last pair.
 pub(crate) const LAST_FILE_REGISTER: u8 = 223;
+pub(crate) const LAST_PAIR: u8 = 222;
 
 // The bytes of the named registers. Those of page 0 (from EITR on) stand at the byte of their number too.
 pub(crate) const CICR: usize = 230;

@@ -2,7 +2,7 @@
 
 use crate::arbitration::{arbitrate, return_from};
 use crate::channels::{check_list, check_source};
-use crate::image::Image;
+use crate::image::{Image, MOST_MEMORY};
 use crate::registers::{read, reset, write};
 use crate::triggers::{trigger, Trigger};
 use crate::{Answer, Channel, Ran, Refusal, Waited};
@@ -56,13 +56,31 @@ pub(crate) fn admit<'a>(
     Ok(image)
 }
 
-/// Performs a step on an image and a list that are good. A refused one changes nothing.
-fn perform(image: &mut Image, channels: &[Channel], step: Step) -> Result<Answer, Refusal> {
+/// Refusals 1, 2 and 8: the same, then the memory.
+fn admit_all<'a>(
+    image: &'a mut [u8],
+    channels: &[Channel],
+    memory: &[u8],
+) -> Result<&'a mut Image, Refusal> {
+    let image = admit(image, channels)?;
+    if memory.len() > MOST_MEMORY {
+        return Err(Refusal::BadMemory);
+    }
+    Ok(image)
+}
+
+/// Performs a step on an image, a list and a memory that are good. A refused one changes nothing.
+fn perform(
+    image: &mut Image,
+    channels: &[Channel],
+    memory: &mut [u8],
+    step: Step,
+) -> Result<Answer, Refusal> {
     match step {
         Step::Read { register } => read(image, channels, register),
         Step::Write { register, value } => write(image, channels, register, value),
         Step::Trigger(kind) => trigger(image, channels, kind),
-        Step::Arbitrate => arbitrate(image, channels),
+        Step::Arbitrate => arbitrate(image, channels, memory),
         Step::Return => {
             return_from(image);
             Ok(Answer::Returned)
@@ -78,29 +96,30 @@ fn perform(image: &mut Image, channels: &[Channel], step: Step) -> Result<Answer
 pub(crate) fn attempt(
     image: &mut Image,
     channels: &[Channel],
+    memory: &mut [u8],
     word: u64,
 ) -> Result<(Step, Answer), Refusal> {
     let step = Step::decode(word)?;
-    let answer = perform(image, channels, step)?;
+    let answer = perform(image, channels, memory, step)?;
     Ok((step, answer))
 }
 
 /// One step.
-pub fn step(image: &mut [u8], channels: &[Channel], word: u64) -> Answer {
-    admit(image, channels)
-        .and_then(|image| attempt(image, channels, word))
+pub fn step(image: &mut [u8], channels: &[Channel], memory: &mut [u8], word: u64) -> Answer {
+    admit_all(image, channels, memory)
+        .and_then(|image| attempt(image, channels, memory, word))
         .map_or_else(Answer::Refused, |(_, answer)| answer)
 }
 
 /// The steps in order, up to the first that is refused.
-pub fn run(image: &mut [u8], channels: &[Channel], words: &[u64]) -> Ran {
-    let image = match admit(image, channels) {
+pub fn run(image: &mut [u8], channels: &[Channel], memory: &mut [u8], words: &[u64]) -> Ran {
+    let image = match admit_all(image, channels, memory) {
         Ok(image) => image,
         Err(refusal) => return Ran::RefusedCall(refusal),
     };
     let mut last = None;
     for (index, &word) in words.iter().enumerate() {
-        match attempt(image, channels, word) {
+        match attempt(image, channels, memory, word) {
             Ok((_, answer)) => last = Some(answer),
             Err(refusal) => return Ran::RefusedStep { refusal, index },
         }
@@ -112,8 +131,14 @@ pub fn run(image: &mut [u8], channels: &[Channel], words: &[u64]) -> Ran {
 }
 
 /// The wait report: the steps until the named source is acknowledged by an interrupt, or the list ends, or a step is refused.
-pub fn wait(image: &mut [u8], channels: &[Channel], source: u32, words: &[u64]) -> Waited {
-    let admitted = admit(image, channels).and_then(|image| {
+pub fn wait(
+    image: &mut [u8],
+    channels: &[Channel],
+    memory: &mut [u8],
+    source: u32,
+    words: &[u64],
+) -> Waited {
+    let admitted = admit_all(image, channels, memory).and_then(|image| {
         let source = check_source(channels, source)?;
         Ok((image, source))
     });
@@ -123,7 +148,7 @@ pub fn wait(image: &mut [u8], channels: &[Channel], source: u32, words: &[u64]) 
     };
     let mut arbitrations = 0;
     for (index, &word) in words.iter().enumerate() {
-        match attempt(image, channels, word) {
+        match attempt(image, channels, memory, word) {
             Ok((Step::Arbitrate, answer)) => {
                 arbitrations += 1;
                 if answer.acknowledges(awaited) {

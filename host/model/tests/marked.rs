@@ -1,6 +1,6 @@
 //! The marked examples C01 to C13 of document 01. Unless said, other bytes are 0 and EIVR is 46h.
 
-use model::{paged, step, word, Answer, Channel, Effect, Refusal, IMAGE_LENGTH, MARK};
+use model::{paged, word, Answer, Channel, Effect, Refusal, IMAGE_LENGTH, MARK};
 
 const CICR: usize = 230;
 const MODER: usize = 235;
@@ -35,6 +35,11 @@ fn dma_image(idcr: u8, address: u8, counter: u8) -> Vec<u8> {
         (16, address),
         (17, counter),
     ])
+}
+
+/// A step with no memory: none of the examples has one.
+fn step(image: &mut [u8], channels: &[Channel], word: u64) -> Answer {
+    model::step(image, channels, &mut [], word)
 }
 
 fn arbitrate(image: &mut [u8], channels: &[Channel]) -> Answer {

@@ -62,21 +62,27 @@ pub enum Answer {
     Reset,
 }
 
-/// Does one step. A refused one changes nothing.
+/// Does one step. A refused one changes nothing. The memory is what DMA moves bytes into and out of, at most
+/// [`MOST_MEMORY`](crate::MOST_MEMORY) bytes and `&mut []` where there is none.
 ///
 /// ```
 /// use st9::{place, register, step, Answer, Refusal, Step};
 ///
 /// let mut image = [0; st9::IMAGE_LENGTH];
 /// image[place(0, register::EIPR)] = 0x14;
-/// let answer = step(&mut image, &[], Step::write(register::EIPR, 0x10))?;
+/// let answer = step(&mut image, &[], &mut [], Step::write(register::EIPR, 0x10))?;
 /// assert_eq!(answer, Answer::Written { erased: 0x04 });
 /// assert_eq!(answer.to_string(), "erased 04h: INTB0");
-/// assert_eq!(step(&mut image, &[], Step::Read { register: 256 }), Err(Refusal::Register));
+/// assert_eq!(step(&mut image, &[], &mut [], Step::Read { register: 256 }), Err(Refusal::Register));
 /// # Ok::<(), Refusal>(())
 /// ```
-pub fn step(image: &mut [u8], channels: &[Channel], step: Step) -> Result<Answer, Refusal> {
-    let flat = calls::step(image, channels, step.word());
+pub fn step(
+    image: &mut [u8],
+    channels: &[Channel],
+    memory: &mut [u8],
+    step: Step,
+) -> Result<Answer, Refusal> {
+    let flat = calls::step(image, channels, memory, step.word());
     match flat.kind {
         sys::REFUSED => Err(Refusal::answered(flat.refusal)),
         _ => Ok(Answer::told(&flat)),

@@ -80,8 +80,8 @@ pub enum Basis {
 
 /// By which arbitration of the list the source is acknowledged at the latest, or the first premise of demand 3 that
 /// fails. With reads or writes in the list ask [`handler_bound`]. A refused step is passed over, whatever it is: it
-/// changes nothing and counts nowhere. Refused with 1, 2 or 4 as a wait report is. One allocation a call, for the words
-/// of the steps; [`words::bound`] takes them ready.
+/// changes nothing and counts nowhere. Refused with 1, 2 or 4 as a wait report without a memory is. One allocation a
+/// call, for the words of the steps; [`words::bound`] takes them ready.
 ///
 /// ```
 /// use st9::{bound, cicr, place, register, Bound, Premise, Source, Step};
@@ -110,8 +110,8 @@ pub fn bound(
 /// acknowledged at the latest, if the list has so many, or the first premise that fails of the steps up to its
 /// acknowledgement: no reset, IEN = 1 at each arbitration, and no write that changes the mode, the current level, the
 /// top level's enables, a source's mask, level or DMA enable, or that erases the source's pending bit. The answer has
-/// what a write changed. Never above `bound`'s where both answer one. Refused with 1, 2 or 4 as a wait report is.
-/// One allocation a call, for the words of the steps; [`words::handler_bound`] takes them ready.
+/// what a write changed. Never above `bound`'s where both answer one. Refused with 1, 2 or 4 as a wait report
+/// without a memory is. One allocation a call, for the words of the steps; [`words::handler_bound`] takes them ready.
 ///
 /// ```
 /// use st9::{cicr, handler_bound, place, register, Basis, Bound, Premise, Source, Step};

@@ -5,24 +5,45 @@
 use crate::sys;
 use crate::Channel;
 
-pub(crate) fn step(image: &mut [u8], channels: &[Channel], word: u64) -> sys::Answer {
+pub(crate) fn step(
+    image: &mut [u8],
+    channels: &[Channel],
+    memory: &mut [u8],
+    word: u64,
+) -> sys::Answer {
     let (records, length) = bytes(channels);
-    // SAFETY: both pointers and lengths are of live slices; the image is borrowed mutably, so that nothing overlaps it
-    // and nobody else reads or writes it during the call. The library keeps no pointer.
-    unsafe { sys::st9_step(image.as_mut_ptr(), image.len(), records, length, word) }
+    let (cells, size) = (memory.as_mut_ptr(), memory.len());
+    // SAFETY: pointers and lengths are of live slices; image and memory are borrowed mutably, so that nothing overlaps
+    // them and nobody else reads or writes them during the call. The library keeps no pointer.
+    unsafe { sys::st9_step(image.as_mut_ptr(), image.len(), records, length, cells, size, word) }
 }
 
-pub(crate) fn run(image: &mut [u8], channels: &[Channel], words: &[u64]) -> sys::Answer {
+pub(crate) fn run(
+    image: &mut [u8],
+    channels: &[Channel],
+    memory: &mut [u8],
+    words: &[u64],
+) -> sys::Answer {
     let (records, length) = bytes(channels);
     // SAFETY: as in `step`; the words are a live slice too, and aligned.
     unsafe {
-        sys::st9_run(image.as_mut_ptr(), image.len(), records, length, words.as_ptr(), words.len())
+        sys::st9_run(
+            image.as_mut_ptr(),
+            image.len(),
+            records,
+            length,
+            memory.as_mut_ptr(),
+            memory.len(),
+            words.as_ptr(),
+            words.len(),
+        )
     }
 }
 
 pub(crate) fn wait(
     image: &mut [u8],
     channels: &[Channel],
+    memory: &mut [u8],
     source: u32,
     words: &[u64],
 ) -> sys::Answer {
@@ -34,6 +55,8 @@ pub(crate) fn wait(
             image.len(),
             records,
             length,
+            memory.as_mut_ptr(),
+            memory.len(),
             source,
             words.as_ptr(),
             words.len(),

@@ -1,4 +1,4 @@
-//! The refusals of document 01.
+//! The refusals of document 01, with those of the memory.
 
 use crate::{calls, text};
 use std::fmt;
@@ -15,27 +15,31 @@ pub enum Refusal {
     Register = 3,
     /// 4: a pin over 7, a direction over 1, a record or a source that isn't there.
     Number = 4,
-    /// 5: the DMA winner has DCPR bit 0 = 0 (memory).
-    MemoryTransfer = 5,
-    /// 6: the DMA winner has a pointer pair or an address over 223.
+    /// 5: the DMA winner has a memory address that is not below the memory's length.
+    Address = 5,
+    /// 6: the DMA winner has a pointer pair or an address over 223 (register file), or a pointer over 222 (memory),
+    /// which comes before 5.
     Pointer = 6,
     /// 7: a kind of step or of trigger that is unknown.
     UnknownKind = 7,
+    /// 8: the memory is over 65,536 bytes, whatever the step; checked right after 2.
+    Memory = 8,
 }
 
 impl Refusal {
     /// All refusals, in the order of their numbers.
-    pub const ALL: [Refusal; 7] = [
+    pub const ALL: [Refusal; 8] = [
         Refusal::ImageLength,
         Refusal::ChannelList,
         Refusal::Register,
         Refusal::Number,
-        Refusal::MemoryTransfer,
+        Refusal::Address,
         Refusal::Pointer,
         Refusal::UnknownKind,
+        Refusal::Memory,
     ];
 
-    /// Document 01's number, 1 to 7.
+    /// Its number, 1 to 8.
     pub const fn number(self) -> u8 {
         self as u8
     }
@@ -67,9 +71,12 @@ impl fmt::Display for Refusal {
             Refusal::Number => {
                 "pin over 7, direction over 1, record or source number that isn't there"
             }
-            Refusal::MemoryTransfer => "the DMA winner has DCPR bit 0 = 0 (memory)",
-            Refusal::Pointer => "the DMA winner has n or a over 223",
+            Refusal::Address => "the DMA winner has a memory address not below the memory's length",
+            Refusal::Pointer => {
+                "the DMA winner has n or a over 223, or a pointer over 222 (memory)"
+            }
             Refusal::UnknownKind => "step or trigger kind unknown",
+            Refusal::Memory => "the memory is over 65,536 bytes",
         })
     }
 }

@@ -17,9 +17,9 @@ pub struct Done {
 /// A run that was refused.
 #[derive(Clone, Copy, Debug, PartialEq, Eq, Hash)]
 pub enum RunError {
-    /// Refused before any step: the image's length or the channel list.
+    /// Refused before any step: the image's length, the channel list or the memory's length.
     Call(Refusal),
-    /// Refused at a step; the image is as the steps before it left it.
+    /// Refused at a step; image and memory are as the steps before it left them.
     Step {
         /// Why.
         refusal: Refusal,
@@ -46,9 +46,9 @@ pub enum Wait {
 /// A wait report that was refused.
 #[derive(Clone, Copy, Debug, PartialEq, Eq, Hash)]
 pub enum WaitError {
-    /// Refused before any step: the image's length, the channel list or the source's number.
+    /// Refused before any step: the image's length, the channel list, the memory's length or the source's number.
     Call(Refusal),
-    /// Refused at a step; the image is as the steps before it left it.
+    /// Refused at a step; image and memory are as the steps before it left them.
     Step {
         /// Why.
         refusal: Refusal,
@@ -67,14 +67,19 @@ pub enum WaitError {
 ///
 /// let mut image = [0; st9::IMAGE_LENGTH];
 /// let steps = [Step::write(register::EIMR, 0x14), Step::Return, Step::Read { register: 256 }];
-/// let done = run(&mut image, &[], &steps[..2])?;
+/// let done = run(&mut image, &[], &mut [], &steps[..2])?;
 /// assert_eq!(done.to_string(), "done: 2 steps, last answer: returned");
 /// let refused = RunError::Step { refusal: Refusal::Register, index: 2 };
-/// assert_eq!(run(&mut image, &[], &steps), Err(refused));
+/// assert_eq!(run(&mut image, &[], &mut [], &steps), Err(refused));
 /// # Ok::<(), RunError>(())
 /// ```
-pub fn run(image: &mut [u8], channels: &[Channel], steps: &[Step]) -> Result<Done, RunError> {
-    words::run(image, channels, &words::of(steps))
+pub fn run(
+    image: &mut [u8],
+    channels: &[Channel],
+    memory: &mut [u8],
+    steps: &[Step],
+) -> Result<Done, RunError> {
+    words::run(image, channels, memory, &words::of(steps))
 }
 
 /// Does the steps until the source is acknowledged by an interrupt, or the list ends, or a step is refused, and counts
@@ -85,19 +90,20 @@ pub fn run(image: &mut [u8], channels: &[Channel], steps: &[Step]) -> Result<Don
 ///
 /// let mut image = [0; st9::IMAGE_LENGTH];
 /// let steps = [Step::Arbitrate];
-/// let waited = wait(&mut image, &[], Source::INTB1, &steps)?;
+/// let waited = wait(&mut image, &[], &mut [], Source::INTB1, &steps)?;
 /// assert_eq!(waited.to_string(), "not acknowledged, the list ended after 1 arbitration");
 /// let refused = WaitError::Call(Refusal::Number);
-/// assert_eq!(wait(&mut image, &[], Source::channel(0), &steps), Err(refused));
+/// assert_eq!(wait(&mut image, &[], &mut [], Source::channel(0), &steps), Err(refused));
 /// # Ok::<(), WaitError>(())
 /// ```
 pub fn wait(
     image: &mut [u8],
     channels: &[Channel],
+    memory: &mut [u8],
     source: Source,
     steps: &[Step],
 ) -> Result<Wait, WaitError> {
-    words::wait(image, channels, source, &words::of(steps))
+    words::wait(image, channels, memory, source, &words::of(steps))
 }
 
 impl Done {

@@ -99,14 +99,16 @@ extern "C" {
     /// One step.
     ///
     /// # Safety
-    /// As for every function here: each pointer has as many readable elements as the length beside it says (the image
-    /// of `st9_step`, `st9_run` and `st9_wait` writable too), the image overlaps nothing else that is lent, and nobody
-    /// else writes during the call. A pointer may be null where its length is 0.
+    /// As for every function here: each pointer has as many readable elements as the length beside it says (image and
+    /// memory of `st9_step`, `st9_run` and `st9_wait` writable too), image and memory overlap neither each other nor
+    /// anything else that is lent, and nobody else writes during the call. A pointer may be null where its length is 0.
     pub fn st9_step(
         image: *mut u8,
         image_length: usize,
         channels: *const u8,
         channels_length: usize,
+        memory: *mut u8,
+        memory_length: usize,
         word: u64,
     ) -> Answer;
 
@@ -119,6 +121,8 @@ extern "C" {
         image_length: usize,
         channels: *const u8,
         channels_length: usize,
+        memory: *mut u8,
+        memory_length: usize,
         words: *const u64,
         word_count: usize,
     ) -> Answer;
@@ -132,6 +136,8 @@ extern "C" {
         image_length: usize,
         channels: *const u8,
         channels_length: usize,
+        memory: *mut u8,
+        memory_length: usize,
         source: u32,
         words: *const u64,
         word_count: usize,

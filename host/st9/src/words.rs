@@ -9,7 +9,7 @@
 //! let mut image = [0; st9::IMAGE_LENGTH];
 //! let list = words::of(&[Step::Arbitrate, Step::Return]);
 //! for _ in 0..1000 {
-//!     assert_eq!(words::run(&mut image, &[], &list)?.steps, 2);
+//!     assert_eq!(words::run(&mut image, &[], &mut [], &list)?.steps, 2);
 //! }
 //! # Ok::<(), st9::RunError>(())
 //! ```
@@ -22,8 +22,13 @@ pub fn of(steps: &[Step]) -> Vec<u64> {
 }
 
 /// Does the steps one after another, up to the first that is refused.
-pub fn run(image: &mut [u8], channels: &[Channel], words: &[u64]) -> Result<Done, RunError> {
-    Done::told(&calls::run(image, channels, words))
+pub fn run(
+    image: &mut [u8],
+    channels: &[Channel],
+    memory: &mut [u8],
+    words: &[u64],
+) -> Result<Done, RunError> {
+    Done::told(&calls::run(image, channels, memory, words))
 }
 
 /// Does the steps until the source is acknowledged by an interrupt, or the list ends, or a step is refused, and counts
@@ -31,10 +36,11 @@ pub fn run(image: &mut [u8], channels: &[Channel], words: &[u64]) -> Result<Done
 pub fn wait(
     image: &mut [u8],
     channels: &[Channel],
+    memory: &mut [u8],
     source: Source,
     words: &[u64],
 ) -> Result<Wait, WaitError> {
-    Wait::told(&calls::wait(image, channels, source.0, words))
+    Wait::told(&calls::wait(image, channels, memory, source.0, words))
 }
 
 /// Demand 3's bound over triggers, arbitrations and returns.

@@ -109,7 +109,11 @@ fn runs() {
         ),
         (
             RunError::Step { refusal: Refusal::Pointer, index: 2 },
-            "refused with 6 at step 2 (the DMA winner has n or a over 223)",
+            "refused with 6 at step 2 (the DMA winner has n or a over 223, or a pointer over 222 (memory))",
+        ),
+        (
+            RunError::Call(Refusal::Memory),
+            "refused with 8 (the memory is over 65,536 bytes), before any step",
         ),
     ]);
 }
@@ -216,10 +220,12 @@ fn refusals() {
         "channel list breaks a rule",
         "register read or written not modelled or over 255; viewed page over 63",
         "pin over 7, direction over 1, record or source number that isn't there",
-        "the DMA winner has DCPR bit 0 = 0 (memory)",
-        "the DMA winner has n or a over 223",
+        "the DMA winner has a memory address not below the memory's length",
+        "the DMA winner has n or a over 223, or a pointer over 222 (memory)",
         "step or trigger kind unknown",
+        "the memory is over 65,536 bytes",
     ];
+    assert_eq!(Refusal::ALL.len(), expected.len());
     for (number, meaning) in (1..).zip(expected) {
         let refusal = Refusal::from_number(number).expect("a refusal");
         assert_eq!(u64::from(refusal.number()), number);
@@ -228,5 +234,5 @@ fn refusals() {
         assert_eq!(refusal.with_number(), format!("refused with {number} ({meaning})"));
     }
     assert_eq!(Refusal::from_number(0), None);
-    assert_eq!(Refusal::from_number(8), None);
+    assert_eq!(Refusal::from_number(9), None);
 }

@@ -89,9 +89,10 @@ static void refusals_and_effects(void)
     LINE(ST9_BAD_LIST);
     LINE(ST9_BAD_REGISTER);
     LINE(ST9_BAD_NUMBER);
-    LINE(ST9_MEMORY_TRANSFER);
+    LINE(ST9_BAD_ADDRESS);
     LINE(ST9_BAD_POINTER);
     LINE(ST9_UNKNOWN_KIND);
+    LINE(ST9_BAD_MEMORY);
     LINE(ST9_NOT_SELECTED);
     LINE(ST9_RAISED);
     LINE(ST9_MERGED);
@@ -102,6 +103,7 @@ static void sizes_sources_directions(void)
     LINE(ST9_IMAGE_LENGTH);
     LINE(ST9_MARK);
     LINE(ST9_MOST_CHANNELS);
+    LINE(ST9_MOST_MEMORY);
     LINE(ST9_INTA0);
     LINE(ST9_INTA1);
     LINE(ST9_INTB0);
@@ -189,18 +191,61 @@ static void calls(void)
     answer("handler bound", st9_handler_bound(image, sizeof image, bytes, sizeof list, ST9_FIRST_CHANNEL, handler, 3));
     answer("handler bound of what is erased",
            st9_handler_bound(image, sizeof image, bytes, sizeof list, ST9_INTA0, handler, 3));
-    answer("wait", st9_wait(other, sizeof other, bytes, sizeof list, ST9_FIRST_CHANNEL, list_of_steps, 3));
-    answer("step", st9_step(image, sizeof image, bytes, sizeof list, st9_arbitrate()));
-    answer("run", st9_run(image, sizeof image, bytes, sizeof list, list_of_steps + 1, 2));
-    answer("run of no steps and no list", st9_run(image, sizeof image, NULL, 0, NULL, 0));
-    answer("bytes that are no whole record", st9_step(image, sizeof image, bytes, sizeof list - 1, st9_return()));
-    answer("an image that is too short", st9_step(image, sizeof image - 1, bytes, sizeof list, st9_return()));
+    answer("wait", st9_wait(other, sizeof other, bytes, sizeof list, NULL, 0, ST9_FIRST_CHANNEL, list_of_steps, 3));
+    answer("step", st9_step(image, sizeof image, bytes, sizeof list, NULL, 0, st9_arbitrate()));
+    answer("run", st9_run(image, sizeof image, bytes, sizeof list, NULL, 0, list_of_steps + 1, 2));
+    answer("run of no steps, no list, no memory", st9_run(image, sizeof image, NULL, 0, NULL, 0, NULL, 0));
+    answer("bytes that are no whole record",
+           st9_step(image, sizeof image, bytes, sizeof list - 1, NULL, 0, st9_return()));
+    answer("an image that is too short",
+           st9_step(image, sizeof image - 1, bytes, sizeof list, NULL, 0, st9_return()));
     line("view of page 9", (uint64_t)(st9_view(image, sizeof image, 9) - image));
     line("view of page 64 is null", st9_view(image, sizeof image, 64) == NULL);
     line("its number", st9_view_number(image, sizeof image, 64));
     line("view of a short image is null", st9_view(image, sizeof image - 1, 9) == NULL);
     line("twice a place by sums", 2 * ST9_PAGED(8 + 1, 239 + 1));
     line("IDCR after", st9_view(image, sizeof image, 9)[0]);
+}
+
+static uint8_t memory[ST9_MOST_MEMORY + 1];
+
+/* The counter in R16 and R17, the address in R18 and R19. */
+static void counter_and_address(const uint8_t *image)
+{
+    line("counter", 256u * image[16] + image[17]);
+    line("address", 256u * image[18] + image[19]);
+}
+
+/* One record with DMA into a memory of seven bytes: two bytes from address 5 on, and one more past the end. */
+static void calls_with_memory(void)
+{
+    const st9_channel list[] = {{9, 240, 241, 242, 243, 244, ST9_TO_REGISTER_FILE}};
+    const uint8_t *bytes = (const uint8_t *)list;
+    const uint64_t steps[] = {st9_request(0), st9_arbitrate()};
+    uint8_t image[ST9_IMAGE_LENGTH] = {0};
+    image[ST9_CICR] = 0x87;
+    image[17] = 2;
+    image[19] = 5;
+    image[ST9_PAGED(9, 240)] = 0x32;
+    image[ST9_PAGED(9, 242)] = 16;
+    image[ST9_PAGED(9, 243)] = 18;
+    image[ST9_PAGED(9, 244)] = 0x5A;
+
+    answer("step into memory", st9_step(image, sizeof image, bytes, sizeof list, memory, 7, st9_arbitrate()));
+    line("memory 5", memory[5]);
+    counter_and_address(image);
+    image[ST9_PAGED(9, 244)] = 0x5B;
+    answer("run into memory", st9_run(image, sizeof image, bytes, sizeof list, memory, 7, steps, 2));
+    line("memory 6", memory[6]);
+    counter_and_address(image);
+    image[ST9_PAGED(9, 240)] = 0x12;
+    answer("wait past the memory's end",
+           st9_wait(image, sizeof image, bytes, sizeof list, memory, 7, ST9_FIRST_CHANNEL, steps, 2));
+    answer("without memory", st9_step(image, sizeof image, bytes, sizeof list, NULL, 0, st9_arbitrate()));
+    answer("memory that is too long",
+           st9_step(image, sizeof image, bytes, sizeof list, memory, sizeof memory, st9_return()));
+    answer("wait of it, and of no source",
+           st9_wait(image, sizeof image, bytes, sizeof list, memory, sizeof memory, 99, steps, 2));
 }
 
 int main(void)
@@ -212,5 +257,6 @@ int main(void)
     registers_and_bits();
     words();
     calls();
+    calls_with_memory();
     return 0;
 }

@@ -57,24 +57,26 @@ const CHANGES: [(&str, u64); 7] = [
     ("ST9_CHANGED_LEVEL", sys::CHANGED_LEVEL),
 ];
 
-const REFUSALS_AND_EFFECTS: [(&str, u64); 11] = [
+const REFUSALS_AND_EFFECTS: [(&str, u64); 12] = [
     ("ST9_ACCEPTED", 0),
     ("ST9_BAD_LENGTH", Refusal::ImageLength as u64),
     ("ST9_BAD_LIST", Refusal::ChannelList as u64),
     ("ST9_BAD_REGISTER", Refusal::Register as u64),
     ("ST9_BAD_NUMBER", Refusal::Number as u64),
-    ("ST9_MEMORY_TRANSFER", Refusal::MemoryTransfer as u64),
+    ("ST9_BAD_ADDRESS", Refusal::Address as u64),
     ("ST9_BAD_POINTER", Refusal::Pointer as u64),
     ("ST9_UNKNOWN_KIND", Refusal::UnknownKind as u64),
+    ("ST9_BAD_MEMORY", Refusal::Memory as u64),
     ("ST9_NOT_SELECTED", sys::NOT_SELECTED),
     ("ST9_RAISED", sys::RAISED),
     ("ST9_MERGED", sys::MERGED),
 ];
 
-const SIZES_SOURCES_DIRECTIONS: [(&str, u64); 16] = [
+const SIZES_SOURCES_DIRECTIONS: [(&str, u64); 17] = [
     ("ST9_IMAGE_LENGTH", st9::IMAGE_LENGTH as u64),
     ("ST9_MARK", st9::MARK as u64),
     ("ST9_MOST_CHANNELS", st9::MOST_CHANNELS as u64),
+    ("ST9_MOST_MEMORY", st9::MOST_MEMORY as u64),
     ("ST9_INTA0", Source::INTA0.0 as u64),
     ("ST9_INTA1", Source::INTA1.0 as u64),
     ("ST9_INTB0", Source::INTB0.0 as u64),
@@ -145,7 +147,7 @@ handler bound of what is erased: 25 0 1 1 0 0, none: the write at step 1 erases 
 wait: 14 0 0 2 0 0, acknowledged by arbitration 2
 step: 6 0 0 0 0 64, acknowledged INTA0, level 0, vector 40h
 run: 6 0 2 8 2 52, done: 2 steps, last answer: acknowledged channel 0, level 2, vector 34h
-run of no steps and no list: 0 0 0 0 0 0, done: 0 steps, last answer: none (the list is empty)
+run of no steps, no list, no memory: 0 0 0 0 0 0, done: 0 steps, last answer: none (the list is empty)
 bytes that are no whole record: 10 2 0 0 0 0, refused with 2 (channel list breaks a rule)
 an image that is too short: 10 1 0 0 0 0, refused with 1 (image length is not 1,265)
 view of page 9 384
@@ -154,6 +156,18 @@ its number 3
 view of a short image is null 1
 twice a place by sums 768
 IDCR after 10
+step into memory: 7 0 0 8 0 0, DMA of channel 0: one byte moved
+memory 5 90
+counter 1
+address 6
+run into memory: 7 0 2 8 1 0, done: 2 steps, last answer: DMA of channel 0: one byte moved, block ended
+memory 6 91
+counter 0
+address 7
+wait past the memory's end: 12 5 1 0 0 0, refused with 5 at step 1 (the DMA winner has a memory address not below the memory's length)
+without memory: 10 5 0 0 0 0, refused with 5 (the DMA winner has a memory address not below the memory's length)
+memory that is too long: 10 8 0 0 0 0, refused with 8 (the memory is over 65,536 bytes)
+wait of it, and of no source: 11 8 0 0 0 0, refused with 8 (the memory is over 65,536 bytes), before any step
 ";
 
 #[test]
@@ -211,17 +225,20 @@ impl Told {
 
     /// What every function of the library answers to these.
     fn answers(&mut self, asked: &Asked) {
-        let Asked { image, channels, source, words } = asked;
-        let image = || image.clone();
+        let Asked { image, channels, memory, source, words } = asked;
+        let (image, memory) = (|| image.clone(), || memory.clone());
         let first = words.first().copied().unwrap_or_default();
-        let step = st9::step(&mut image(), channels, Step::Word(first));
-        self.answer(flat_step(&mut image(), channels, first), &told(step, Refusal::with_number));
-        let run = st9::words::run(&mut image(), channels, words);
-        self.answer(flat_run(&mut image(), channels, words), &told(run, |error| error.to_string()));
-        let wait = st9::words::wait(&mut image(), channels, *source, words);
+        let step = st9::step(&mut image(), channels, &mut memory(), Step::Word(first));
+        let flat = flat_step(&mut image(), channels, &mut memory(), first);
+        self.answer(flat, &told(step, Refusal::with_number));
+        let run = st9::words::run(&mut image(), channels, &mut memory(), words);
+        let flat = flat_run(&mut image(), channels, &mut memory(), words);
+        self.answer(flat, &told(run, |error| error.to_string()));
+        let wait = st9::words::wait(&mut image(), channels, &mut memory(), *source, words);
         // The answer of a refused run is that of a wait that made no arbitration.
         let refused = |error: WaitError| error.to_string().replace(", after 0 arbitrations", "");
-        self.answer(flat_wait(&mut image(), asked), &told(wait, refused));
+        self.answer(flat_wait(&mut image(), &mut memory(), asked), &told(wait, refused));
+        // The bounds take no memory.
         let refused = |refusal: Refusal| format!("{}, before any step", refusal.with_number());
         let bound = st9::words::bound(&image(), channels, *source, words);
         self.answer(flat_bound(sys::st9_bound, asked), &told(bound, refused));
@@ -238,23 +255,34 @@ fn bytes(channels: &[Channel]) -> (*const u8, usize) {
     (channels.as_ptr().cast(), std::mem::size_of_val(channels))
 }
 
-// SAFETY, of all four: pointers and lengths are of live slices, and the image that may change is borrowed mutably.
-fn flat_step(image: &mut [u8], channels: &[Channel], word: u64) -> sys::Answer {
-    let (list, length) = bytes(channels);
-    unsafe { sys::st9_step(image.as_mut_ptr(), image.len(), list, length, word) }
-}
-
-fn flat_run(image: &mut [u8], channels: &[Channel], words: &[u64]) -> sys::Answer {
+// SAFETY, of all four: pointers and lengths are of live slices, and what may change is borrowed mutably.
+fn flat_step(image: &mut [u8], channels: &[Channel], memory: &mut [u8], word: u64) -> sys::Answer {
     let (list, length) = bytes(channels);
     let (image, size) = (image.as_mut_ptr(), image.len());
-    unsafe { sys::st9_run(image, size, list, length, words.as_ptr(), words.len()) }
+    let (memory, cells) = (memory.as_mut_ptr(), memory.len());
+    unsafe { sys::st9_step(image, size, list, length, memory, cells, word) }
 }
 
-fn flat_wait(image: &mut [u8], asked: &Asked) -> sys::Answer {
+fn flat_run(
+    image: &mut [u8],
+    channels: &[Channel],
+    memory: &mut [u8],
+    words: &[u64],
+) -> sys::Answer {
+    let (list, length) = bytes(channels);
+    let (image, size) = (image.as_mut_ptr(), image.len());
+    let (memory, cells) = (memory.as_mut_ptr(), memory.len());
+    let (words, count) = (words.as_ptr(), words.len());
+    unsafe { sys::st9_run(image, size, list, length, memory, cells, words, count) }
+}
+
+fn flat_wait(image: &mut [u8], memory: &mut [u8], asked: &Asked) -> sys::Answer {
     let (list, length) = bytes(&asked.channels);
-    let (image, size, words) = (image.as_mut_ptr(), image.len(), &asked.words);
+    let (image, size) = (image.as_mut_ptr(), image.len());
+    let (memory, cells) = (memory.as_mut_ptr(), memory.len());
+    let (words, count) = (asked.words.as_ptr(), asked.words.len());
     let source = asked.source.0;
-    unsafe { sys::st9_wait(image, size, list, length, source, words.as_ptr(), words.len()) }
+    unsafe { sys::st9_wait(image, size, list, length, memory, cells, source, words, count) }
 }
 
 type BoundCall =
@@ -277,7 +305,7 @@ fn answers_in_words() {
     each(|compiler| {
         let program = compiler.program("text", &["host/st9/tests/text.c"]);
         let counted = printed_by(&program, &[], "");
-        assert_eq!(counted, "139 texts, the longest of any numbers 157 long\n", "{compiler}");
+        assert_eq!(counted, "141 texts, the longest of any numbers 157 long\n", "{compiler}");
         assert_eq!(printed_by(&program, &["names"], ""), expected, "{compiler}");
         let words = printed_by(&program, &["lines"], &told.numbers);
         let same = words.lines().zip(told.words.lines()).find(|(c, rust)| c != rust);
@@ -295,13 +323,13 @@ fn printed_by_line(line: &str, name: &str) -> String {
     printed_by(&program, &[], "")
 }
 
-/// Eight lines of the header's first comment; those that print say what.
+/// Nine lines of the header's first comment; those that print say what.
 #[test]
 fn the_example_of_the_header() {
     let header = fs::read_to_string(root().join("include/st9.h")).expect("the header");
     let (comment, _) = header.split_once("*/").expect("its first comment");
     let lines: Vec<_> = comment.lines().filter_map(|line| line.strip_prefix(" *     ")).collect();
-    assert_eq!(lines.len(), 8, "{lines:?}");
+    assert_eq!(lines.len(), 9, "{lines:?}");
     let said = lines.iter().filter_map(|line| line.strip_prefix("puts(text);"));
     let said = said.map(|rest| rest.trim_start().strip_prefix("// ").expect("what it prints"));
     let said: String = said.map(|words| format!("{words}\n")).collect();
@@ -318,6 +346,28 @@ fn the_example_of_the_header() {
     let line = comment.split_once(" cc ").and_then(|(_, line)| line.split_once("libst9.a"));
     let line = line.expect("how it is compiled").0.replace("fan.c", &format!("'{file}'"));
     assert_eq!(printed_by_line(&format!("cc {line}libst9.a"), "fan"), said);
+}
+
+/// The C of the guide's section on memory; what its last lines print stands beside them.
+#[test]
+fn the_memory_of_the_guide() {
+    let guide = fs::read_to_string(root().join("docs/GUIDE.md")).expect("the guide");
+    let (_, code) = guide.split_once("    const st9_channel list[]").expect("its C");
+    let code = format!("const st9_channel list[]{code}");
+    let lines: Vec<_> = code.lines().take_while(|line| !line.is_empty()).collect();
+    let prints = |line: &&&str| line.contains("puts(") || line.contains("printf(");
+    let said = lines.iter().filter(prints).map(|line| line.split_once("// ").expect("what").1);
+    let said: String = said.map(|words| format!("{words}\n")).collect();
+    assert_eq!(said.lines().count(), 2, "{said}");
+    let file = temporary("memory.c");
+    let (includes, code) = ("#include \"st9.h\"\n#include <stdio.h>\n", lines.join("\n"));
+    fs::write(&file, format!("{includes}int main(void)\n{{\n{code}\nreturn 0;\n}}\n"))
+        .expect("written");
+    let file = file.to_str().expect("a path of text");
+    each(|compiler| {
+        let program = compiler.program("memory", &[file]);
+        assert_eq!(printed_by(&program, &[], ""), said, "{compiler}");
+    });
 }
 
 const MARCH: &str = "\

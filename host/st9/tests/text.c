@@ -104,20 +104,24 @@ static const struct row refusals[] = {
      "refused with 3 (register read or written not modelled or over 255; viewed page over 63)"},
     {ST9_REFUSED, 4, 0, 0, 0, 0,
      "refused with 4 (pin over 7, direction over 1, record or source number that isn't there)"},
-    {ST9_REFUSED, 5, 0, 0, 0, 0, "refused with 5 (the DMA winner has DCPR bit 0 = 0 (memory))"},
-    {ST9_REFUSED, 6, 0, 0, 0, 0, "refused with 6 (the DMA winner has n or a over 223)"},
+    {ST9_REFUSED, 5, 0, 0, 0, 0, "refused with 5 (the DMA winner has a memory address not below the memory's length)"},
+    {ST9_REFUSED, 6, 0, 0, 0, 0, "refused with 6 (the DMA winner has n or a over 223, or a pointer over 222 (memory))"},
     {ST9_REFUSED, 7, 0, 0, 0, 0, "refused with 7 (step or trigger kind unknown)"},
+    {ST9_REFUSED, 8, 0, 0, 0, 0, "refused with 8 (the memory is over 65,536 bytes)"},
     {ST9_REFUSED_CALL, 1, 0, 0, 0, 0, "refused with 1 (image length is not 1,265), before any step"},
     {ST9_REFUSED_CALL, 2, 0, 0, 0, 0, "refused with 2 (channel list breaks a rule), before any step"},
+    {ST9_REFUSED_CALL, 8, 0, 0, 0, 0, "refused with 8 (the memory is over 65,536 bytes), before any step"},
     {ST9_REFUSED_CALL, 4, 0, 0, 0, 0,
      "refused with 4 (pin over 7, direction over 1, record or source number that isn't there), before any step"},
     {ST9_REFUSED_STEP, 3, 2, 0, 0, 0,
      "refused with 3 at step 2 (register read or written not modelled or over 255; viewed page over 63)"},
     {ST9_REFUSED_STEP, 7, 0, 0, 0, 0, "refused with 7 at step 0 (step or trigger kind unknown)"},
     {ST9_REFUSED_STEP, 6, 2, 1, 0, 0,
-     "refused with 6 at step 2, after 1 arbitration (the DMA winner has n or a over 223)"},
+     "refused with 6 at step 2, after 1 arbitration"
+     " (the DMA winner has n or a over 223, or a pointer over 222 (memory))"},
     {ST9_REFUSED_STEP, 5, 20, 10, 0, 0,
-     "refused with 5 at step 20, after 10 arbitrations (the DMA winner has DCPR bit 0 = 0 (memory))"},
+     "refused with 5 at step 20, after 10 arbitrations"
+     " (the DMA winner has a memory address not below the memory's length)"},
     {ST9_REFUSED_STEP, 4, MOST, MOST, 0, 0,
      "refused with 4 at step " MOST_TEXT ", after " MOST_TEXT " arbitrations"
      " (pin over 7, direction over 1, record or source number that isn't there)"}
@@ -179,7 +183,7 @@ static const struct row others[] = {
     {ST9_TRANSFERRED, 0, 0, 8, 2, 0, "ended 2, which st9.h does not have"},
     {ST9_TRANSFERRED, 0, 0, 8, MOST, 0, "ended " MOST_TEXT ", which st9.h does not have"},
     {ST9_REFUSED, 0, 0, 0, 0, 0, "refused with 0, which st9.h does not have"},
-    {ST9_REFUSED, 8, 0, 0, 0, 0, "refused with 8, which st9.h does not have"},
+    {ST9_REFUSED, 9, 0, 0, 0, 0, "refused with 9, which st9.h does not have"},
     {ST9_REFUSED_CALL, MOST, 0, 0, 0, 0, "refused with " MOST_TEXT ", which st9.h does not have"},
     {ST9_REFUSED_STEP, 0, 3, 3, 0, 0, "refused with 0, which st9.h does not have"},
     {ST9_CHANGED, 0, 4, 0, 0, 0, "changed 0, which st9.h does not have"},
@@ -252,7 +256,7 @@ static uint64_t next(size_t *rest, const uint64_t *table, size_t count)
 /* Numbers that fields have and numbers that they do not have, each with each: ST9_TEXT_SIZE holds the text. */
 static size_t longest_of_any_numbers(void)
 {
-    static const uint64_t wholes[] = {0, 1, MOST}, some_refusals[] = {0, 3, 4, 7, 8, MOST};
+    static const uint64_t wholes[] = {0, 1, MOST}, some_refusals[] = {0, 3, 4, 5, 6, 8, 9, MOST};
     static const uint64_t firsts[] = {0, 1, 7, 8, 19, 20, 255, 256, MOST}, seconds[] = {0, 1, 2, 3, 6, 7, MOST};
     static const uint64_t thirds[] = {0, 255, 256, MOST};
     size_t longest = 0;

@@ -4,15 +4,20 @@ use mathlib.Core.Path.{_≡_, sym, _∙_}
 use borrow.Author.Needs.{needs}
 use denote.Ref.{now}
 use Rattle.rules.specs.Channels.{listOf}
+use Rattle.rules.specs.Outcomes.{state}
 use Rattle.rules.specs.Arbitration.{granted, arbitrateOf}
 use Rattle.arbiter.proofs.SourceLaws.{dma-winner, interrupt-winner}
 use Rattle.arbiter.proofs.arbitrate.Statement.{statement}
 use Rattle.arbiter.proofs.arbitrate.Tie as tie
 
+abbrev start : tie.After-winner-of → tie.Start
+start c = c .before .before .before .before .before .before .before .before .before .before
+
 -- past the mark and the top level, the winner decides
 gets :
-    (c : tie.After-winner-of) → arbitrateOf (now (c .before .before .before .before .before .before .before .before .before .args .image)) (listOf (c .before .before .before .before .before .before .before .before .before .args .all))
-    ≡ granted (now (c .before .before .before .before .before .before .before .before .before .args .image)) (listOf (c .before .before .before .before .before .before .before .before .before .args .all)) (c .winner-of .result)
+    (c : tie.After-winner-of)
+    → arbitrateOf (state (now (start c .args .image)) (now (start c .args .memory))) (listOf (start c .args .all))
+    ≡ granted (state (now (start c .args .image)) (now (start c .args .memory))) (listOf (start c .args .all)) (c .winner-of .result)
 unfolding arbitrateOf
 gets c =
     let d = c .before .before in
@@ -32,16 +37,18 @@ returns-2 c =
 
 transfer-requires : tie.Need-transfer-requires
 transfer-requires c κs =
-    let d = c .before .before in
-    let s = d .before .before .before .before .before .before .before .before .before .before .before in
-    let w = dma-winner _ _ _ (sym (d .before .before .winner-of .ensures) ∙ d .source .given .1) in
+    let d = c .before .before .before in
+    let e = d .before .before in
+    let s = start e in
+    let w = dma-winner _ _ _ (sym (e .winner-of .ensures) ∙ d .source .given .1) in
     (s .pre .0, s .pre .1, s .pre .2, w .1, w .0)
 
 acknowledge-requires : tie.Need-acknowledge-requires
 acknowledge-requires c κs =
     let d = c .before .before in
-    let s = d .before .before .before .before .before .before .before .before .before .before .before in
-    let w = interrupt-winner _ _ _ _ (sym (d .before .before .winner-of .ensures) ∙ d .source2 .given .1) in
+    let e = d .before .before in
+    let s = start e in
+    let w = interrupt-winner _ _ _ _ (sym (e .winner-of .ensures) ∙ d .source2 .given .1) in
     ((s .pre .0, s .pre .1, s .pre .2, w .0), w .1)
 
 returns-3 : tie.Need-returns-3
@@ -51,18 +58,20 @@ returns-3 c = simp (gets (c .before .before), c .enum-told .given .1)
 returns-4 : tie.Need-returns-4
 unfolding granted
 returns-4 c =
-    let d = c .before .before .before .before .before in
-    simp (gets (d .before .before), d .source .given .1, c .before .before .transfer .ensures)
+    let t = c .before .before .before .before in
+    let d = t .before .before .before .before in
+    simp (gets (d .before .before), d .source .given .1, t .transfer .ensures)
 
 returns-5 : tie.Need-returns-5
 unfolding granted
 returns-5 c =
-    let d = c .before .before .before .before .before in
-    simp (gets (d .before .before), d .source2 .given .1, c .before .before .acknowledge .ensures)
+    let t = c .before .before in
+    let d = t .before .before .before in
+    simp (gets (d .before .before), d .source2 .given .1, t .acknowledge .ensures (now (start (d .before .before) .args .memory)))
 
 pub arbitrate-spec : {M : Type 1} → statement M
 arbitrate-spec {M} =
     let answered = tie.spec {M = M} (λ c κs. search needs) (λ c. search needs) returns (λ c κs. search needs) (λ c κs. search needs) in
     let answered = answered (λ c. search needs) returns-2 (λ c κs. search needs) (λ c. search needs) (λ c. search needs) transfer-requires in
-    let answered = answered (λ c. search needs) acknowledge-requires (λ c. search needs) returns-3 (λ c. search needs) returns-4 in
+    let answered = answered (λ c. search needs) acknowledge-requires (λ c. search needs) returns-3 (λ c. search needs) (λ c. search needs) returns-4 in
     tie.close (answered (λ c. search needs) returns-5)

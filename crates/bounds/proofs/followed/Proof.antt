@@ -9,13 +9,13 @@ use denote.Ref.{now}
 use borrow.Author.Tests.{lt-ltb, le-ltb}
 use Rattle.rules.specs.Image.{imageLength}
 use Rattle.rules.specs.Channels.{listOf}
-use Rattle.rules.specs.Outcomes.{state}
+use Rattle.rules.specs.Outcomes.{alone}
 use Rattle.rules.specs.Runs.{history, oneIf}
 use Rattle.rules.specs.Demand3.{rival, H}
 use Rattle.rules.specs.Encodings.{stepsOf}
 use Rattle.rules.proofs.Counting.{one-le}
 use Rattle.bounds.specs.Followed.{rivalTriggered, followedFrom}
-use Rattle.dispatch.proofs.NextSteps.{next-word, no-word}
+use Rattle.dispatch.proofs.NextSteps.{next-alone, no-word}
 use Rattle.runs.proofs.RunSteps.{as-decoded}
 use Rattle.bounds.proofs.FollowedSteps.{triggers-told, followed-start, followed-end, followed-other, followed-on}
 use Rattle.bounds.proofs.followed.Statement.{statement}
@@ -23,9 +23,11 @@ use Rattle.bounds.proofs.followed.Tie as tie
 
 abbrev Inv-loop : tie.InvT-loop
 Inv-loop image all masks places ours words copy₀ end disabled₀ triggers₀ done₀ copy disabled triggers done =
+    let among = rival image (listOf all) ours in
+    let h = H image (listOf all) ours in
     (done ≤ length words) × (triggers ≤ done) × (length copy ≡ imageLength)
-    × (followedFrom (rival image (listOf all) ours) (H image (listOf all) ours) end 0 end 0 (history (state image) (listOf all) (stepsOf words))
-    ≡ followedFrom (rival image (listOf all) ours) (H image (listOf all) ours) end done disabled triggers (history (state copy) (listOf all) (stepsOf (drop done words))))
+    × (followedFrom among h end 0 end 0 (history (alone image) (listOf all) (stepsOf words))
+    ≡ followedFrom among h end done disabled triggers (history (alone copy) (listOf all) (stepsOf (drop done words))))
 
 abbrev μ-loop : tie.MeasureT-loop
 μ-loop image all masks places ours words copy₀ end disabled₀ triggers₀ done₀ copy disabled triggers done = length words - done
@@ -34,8 +36,9 @@ abbrev μ-loop : tie.MeasureT-loop
 counted-one : (c : tie.After-rival-trigger Inv-loop μ-loop) → c .rival-trigger .result ≤ 1
 counted-one c =
     let d = c .before .before .before .before .before in
-    let s = d .before .before .before .before .before .before .before .before .before .before in
-    omega (arith, c .rival-trigger .ensures, one-le (rivalTriggered (now (s .args .image)) (listOf (s .args .all)) (s .args .ours) (d .before .before .before .decode .result) (d .perform .result)))
+    let s = d .before .before .before .before .before .before .before .before .before .before .args in
+    let x = d .before .before .before .decode .result in
+    omega (arith, c .rival-trigger .ensures, one-le (rivalTriggered (now (s .image)) (listOf (s .all)) (s .ours) x (d .perform-alone .result)))
 
 loop-holds : tie.Need-loop-holds Inv-loop μ-loop
 loop-holds c = (omega arith, omega arith, search needs, rw (c .copy-of .ensures))
@@ -46,10 +49,11 @@ returns c =
     let l = d .before .before .before .before .before .before in
     let i = l .loop .inv in
     let s = l .before .before .before .before in
+    let x = d .before .before .before .decode .ensures in
     sym (followed-start _ _ _ _ _
     ∙ i .3
     ∙ followed-other _ _ _ _ _
-    (next-word _ _ (i .2) (s .pre .1) (d .before .before .before .before .before .loop-test .taken) (d .before .before .before .decode .ensures) (as-decoded _ _ (d .before .before .before .decode .ensures) (d .perform .ensures)))
+    (next-alone _ _ (i .2) (s .pre .1) (d .before .before .before .before .before .loop-test .taken) x (as-decoded _ _ x (d .perform-alone .ensures)))
     _ (sym (c .before .other-step .ensures) ∙ c .if1 .taken))
 
 add-triggers : tie.Need-add-triggers Inv-loop μ-loop
@@ -61,14 +65,17 @@ loop-again c =
     let l = d .before .before .before .before .before .before in
     let i = l .loop .inv in
     let s = l .before .before .before .before in
-    let e = c .rival-trigger .ensures ∙ ap oneIf (sym (triggers-told _ _ (s .pre .1) (rival _ _ _) _ _ _ (as-decoded _ _ (d .before .before .before .decode .ensures) (d .perform .ensures)))) in (
-      omega (arith, d .before .before .before .before .before .loop-test .taken),
+    let t = d .before .before .before .before .before .loop-test .taken in
+    let x = d .before .before .before .decode .ensures in
+    let did = as-decoded _ _ x (d .perform-alone .ensures) in
+    let e = c .rival-trigger .ensures ∙ ap oneIf (sym (triggers-told _ _ (s .pre .1) (rival _ _ _) _ _ _ did)) in (
+      omega (arith, t),
       omega (arith, counted-one c),
       search needs,
       rw (c .before .first-disabled .ensures, d .before .before .has-bit .ensures, e) (i .3
           ∙ followed-on _ _ _ _ _
-          (next-word _ _ (i .2) (s .pre .1) (d .before .before .before .before .before .loop-test .taken) (d .before .before .before .decode .ensures) (as-decoded _ _ (d .before .before .before .decode .ensures) (d .perform .ensures)))
-          _ (sym (c .before .before .before .other-step .ensures) ∙ c .before .before .if1 .left) (d .before .before .before .before .before .loop-test .taken)),
+          (next-alone _ _ (i .2) (s .pre .1) t x did)
+          _ (sym (c .before .before .before .other-step .ensures) ∙ c .before .before .if1 .left) t),
     )
 
 returns-2 : tie.Need-returns-2 Inv-loop μ-loop

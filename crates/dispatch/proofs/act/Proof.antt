@@ -2,15 +2,15 @@
 use mathlib.Core.Path.{_≡_, ap}
 use borrow.Author.Needs.{needs}
 use Rattle.rules.specs.declared.Answer.{Answer}
-use Rattle.rules.specs.Image.{Image}
+use Rattle.rules.specs.Image.{Image, Memory}
 use Rattle.rules.specs.Outcomes.{state, Outcome, outcome}
 use Rattle.rules.specs.Steps.{actOf}
 use Rattle.dispatch.proofs.act.Statement.{statement}
 use Rattle.dispatch.proofs.act.Tie as tie
 
--- what is answered and left of the image is the step's outcome
-made : {c d : Outcome Answer Image} → c ≡ d → outcome (c .answer) (state (c .left)) ≡ outcome (d .answer) (state (d .left))
-made = ap (λ (c : Outcome Answer Image). outcome (c .answer) (state (c .left)))
+-- what is answered and left of the image is the step's outcome, with the memory as it was
+made : {memory : Memory} {c d : Outcome Answer Image} → c ≡ d → outcome (c .answer) (state (c .left) memory) ≡ outcome (d .answer) (state (d .left) memory)
+made {memory} = ap (λ (c : Outcome Answer Image). outcome (c .answer) (state (c .left) memory))
 
 returns : tie.Need-returns
 unfolding actOf
@@ -26,7 +26,9 @@ returns-3 c = rw (c .before .before .before .before .before .step3 .given .1) (m
 
 returns-4 : tie.Need-returns-4
 unfolding actOf
-returns-4 c = rw (c .before .before .before .before .enum-told .given .1) (made (c .before .before .arbitrate .ensures))
+returns-4 c =
+    let d = c .before .before .before .before in
+    rw (d .before .before .before .enum-told .given .1) (d .arbitrate .ensures)
 
 returns-5 : tie.Need-returns-5
 unfolding actOf
@@ -45,5 +47,5 @@ act-spec {M} =
     let answered = tie.spec {M = M} (λ c. search needs) (λ c κs. search needs) (λ c. search needs) (λ c κs. search needs) (λ c. search needs) in
     let answered = answered (λ c κs. search needs) (λ c. search needs) (λ c κs. search needs) (λ c. search needs) (λ c κs. search needs) in
     let answered = answered (λ c. search needs) (λ c κs. search needs) (λ c. search needs) (λ c. search needs) returns (λ c. search needs) in
-    let answered = answered returns-2 (λ c. search needs) returns-3 (λ c. search needs) returns-4 (λ c. search needs) returns-5 (λ c. search needs) in
-    tie.close (answered returns-6 returns-7)
+    let answered = answered returns-2 (λ c. search needs) returns-3 (λ c. search needs) (λ c. search needs) returns-4 (λ c. search needs) returns-5 in
+    tie.close (answered (λ c. search needs) returns-6 returns-7)

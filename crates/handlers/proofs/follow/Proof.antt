@@ -14,7 +14,8 @@ returns c =
     let t = d .before .before in
     let x = t .before .before .decode .ensures in
     let s = t .before .before .before .before .before in
-    rw (← x) (follows-file _ _ _ _ _ _ _ _ (as-decoded _ _ x (d .perform .ensures)) (s .pre .1) (s .pre .2) (s .pre .5) (sym (t .before .is-file-write .ensures) ∙ t .if1 .taken))
+    rw (← x) (follows-file _ _ _ _ _ _ _ _ (as-decoded _ _ x (d .perform-alone .ensures)) (s .pre .1) (s .pre .2) (s .pre .5)
+    (sym (t .before .is-file-write .ensures) ∙ t .if1 .taken))
 
 follow-write-requires : tie.Need-follow-write-requires
 follow-write-requires c κs =
@@ -29,7 +30,7 @@ returns-3 c =
     let t = d .before .before .before .before .before in
     let x = t .before .before .before .before .decode .ensures in
     let s = t .before .before .before .before .before .before .before in
-    rw (← x) (follows-call _ _ _ _ _ _ _ _ (as-decoded _ _ x (d .perform2 .ensures)) (s .pre .2) (sym (t .before .is-write .ensures) ∙ t .if2 .left) _ _ _
+    rw (← x) (follows-call _ _ _ _ _ _ _ _ (as-decoded _ _ x (d .perform-alone2 .ensures)) (s .pre .2) (sym (t .before .is-write .ensures) ∙ t .if2 .left) _ _ _
     (ap₂ (λ (x y : Bool). x && not y) (d .before .before .before .before .is-arbitration .ensures) (d .before .before .has-bit .ensures)) (c .before .broken-call .ensures) (c .rival-trigger .ensures))
 
 pub follow-spec : {M : Type 1} → statement M

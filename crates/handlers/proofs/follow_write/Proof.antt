@@ -16,14 +16,16 @@ returns c =
     let v = c .before .before .before .before .before .before .before .before in
     let d = v .before .before .before in
     let s = d .before .before .before .before .before .before in
-    follows-write _ _ _ _ _ _ _ _ (d .perform .ensures) (s .pre .6) (ap refuses (sym (v .verdict-of .ensures) ∙ c .before .before .before .before .before .before .enum-told .given .1)) _ _
+    follows-write _ _ _ _ _ _ _ _ (d .perform-alone .ensures) (s .pre .6)
+    (ap refuses (sym (v .verdict-of .ensures) ∙ c .before .before .before .before .before .before .enum-told .given .1)) _ _
     (rw (← d .before .before .copy-of .ensures) (c .before .before .before .first-changed .ensures)) (rw (← d .before .before .copy-of .ensures) (c .raised-rivals .ensures))
 
 returns-2 : tie.Need-returns-2
 returns-2 c =
     let d = c .before .before .before .before .before in
     let s = d .before .before .before .before .before .before in
-    follows-refused _ _ _ _ _ _ _ _ (d .perform .ensures) (s .pre .6) (ap refuses (sym (c .before .before .verdict-of .ensures) ∙ c .enum-told2 .given .1))
+    follows-refused _ _ _ _ _ _ _ _ (d .perform-alone .ensures) (s .pre .6)
+    (ap refuses (sym (c .before .before .verdict-of .ensures) ∙ c .enum-told2 .given .1))
 
 pub follow-write-spec : {M : Type 1} → statement M
 follow-write-spec {M} =

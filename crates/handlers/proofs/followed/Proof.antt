@@ -7,12 +7,12 @@ use lib.ListN.{length, drop}
 use borrow.Author.Needs.{needs}
 use Rattle.rules.specs.Image.{imageLength}
 use Rattle.rules.specs.Channels.{listOf}
-use Rattle.rules.specs.Outcomes.{state}
+use Rattle.rules.specs.Outcomes.{alone}
 use Rattle.rules.specs.Runs.{history}
 use Rattle.rules.specs.Demand3.{rival, H}
 use Rattle.rules.specs.Handlers.{upTo}
 use Rattle.rules.specs.Encodings.{stepsOf}
-use Rattle.dispatch.proofs.NextSteps.{next-word, no-word}
+use Rattle.dispatch.proofs.NextSteps.{next-alone, no-word}
 use Rattle.handlers.specs.Handled.{followedFrom}
 use Rattle.handlers.proofs.FollowLaws.{follows-few, broken-some, broken-none, followed-start, followed-end, followed-broken, followed-last, followed-on}
 use Rattle.handlers.proofs.followed.Statement.{statement}
@@ -23,8 +23,8 @@ Inv-loop image all masks places source words ours copy₀ triggers₀ done₀ co
     let among = rival image (listOf all) source in
     let h = H image (listOf all) source in
     (done ≤ length words) × (triggers ≤ 12 * done) × (length copy ≡ imageLength)
-    × (followedFrom (listOf all) source among h 0 0 (upTo source (history (state image) (listOf all) (stepsOf words)))
-    ≡ followedFrom (listOf all) source among h done triggers (upTo source (history (state copy) (listOf all) (stepsOf (drop done words)))))
+    × (followedFrom (listOf all) source among h 0 0 (upTo source (history (alone image) (listOf all) (stepsOf words)))
+    ≡ followedFrom (listOf all) source among h done triggers (upTo source (history (alone copy) (listOf all) (stepsOf (drop done words)))))
 
 abbrev μ-loop : tie.MeasureT-loop
 μ-loop image all masks places source words ours copy₀ triggers₀ done₀ copy triggers done = length words - done
@@ -45,7 +45,7 @@ returns c =
     sym (followed-start _ _ _ _
     ∙ i .3
     ∙ followed-broken _ _ _ _ _
-    (next-word _ _ (i .2) (s .pre .1) (f .before .before .before .loop-test .taken) refl (f .follow .ensures .did)) _ _
+    (next-alone _ _ (i .2) (s .pre .1) (f .before .before .before .loop-test .taken) refl (f .follow .ensures .did)) _ _
     (broken-some _ _ (sym (f .follow .ensures .breaks) ∙ c .before .broken .given .1)))
 
 add-triggers : tie.Need-add-triggers Inv-loop μ-loop
@@ -66,7 +66,7 @@ returns-2 c =
     sym (followed-start _ _ _ _
     ∙ i .3
     ∙ followed-last _ _ _ _ _
-    (next-word _ _ (i .2) (s .pre .1) (f .before .before .before .loop-test .taken) refl (f .follow .ensures .did)) _
+    (next-alone _ _ (i .2) (s .pre .1) (f .before .before .before .loop-test .taken) refl (f .follow .ensures .did)) _
     (broken-none _ (sym (f .follow .ensures .breaks) ∙ c .before .before .before .before .enum-told .given .1)) (sym (c .before .before .acknowledged .ensures) ∙ c .before .if1 .taken)
     ∙ rw (c .within .ensures, f .follow .ensures .counts))
 
@@ -81,7 +81,7 @@ loop-again c =
       search needs,
       rw (f .follow .ensures .counts) (i .3
           ∙ followed-on _ _ _ _ _
-          (next-word _ _ (i .2) (s .pre .1) (f .before .before .before .loop-test .taken) refl (f .follow .ensures .did)) _
+          (next-alone _ _ (i .2) (s .pre .1) (f .before .before .before .loop-test .taken) refl (f .follow .ensures .did)) _
           (broken-none _ (sym (f .follow .ensures .breaks) ∙ c .before .before .before .enum-told .given .1)) (sym (c .before .acknowledged .ensures) ∙ c .if1 .left)),
     )
 

@@ -8,7 +8,8 @@ use Rattle.machine.proofs.bound.Tie as tie
 bound-accepted-requires : tie.Need-bound-accepted-requires
 bound-accepted-requires c κs =
     let e = c .before .before in
-    source-laid _ _ _ _ (e .enum-told .given .1) _ (e .before .before .wait-verdict .ensures)
+    let l = source-laid _ _ _ _ (e .enum-told .given .1) _ (e .before .before .wait-verdict .ensures) in
+    (l .0, l .1, l .2, l .3, l .5)
 
 returns : tie.Need-returns
 returns c =
@@ -20,5 +21,5 @@ returns-2 c = bounds-by _ _ _ _ _ _ (sym (c .before .before .before .wait-verdic
 
 pub bound-spec : {M : Type 1} → statement M
 bound-spec {M} =
-    let answered = tie.spec {M = M} (λ c κs. search needs) (λ c κs. search needs) (λ c κs. search needs) (λ c. search needs) bound-accepted-requires in
-    tie.close (answered (λ c. search needs) returns returns-2)
+    let answered = tie.spec {M = M} (λ c κs. search needs) (λ c κs. search needs) (λ c. search needs) (λ c κs. search needs) (λ c. search needs) in
+    tie.close (answered bound-accepted-requires (λ c. search needs) returns returns-2)

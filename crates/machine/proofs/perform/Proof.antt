@@ -7,13 +7,13 @@ use Rattle.machine.proofs.perform.Tie as tie
 
 perform-requires : tie.Need-perform-requires
 perform-requires c κs =
-    let e = c .before .before .before in
+    let e = c .before .before .before .before in
     lent-laid _ _ _ _ (e .enum-told .given .1) (e .before .before .lent-verdict .ensures)
 
 returns : tie.Need-returns
 returns c =
-    let d = c .before .before in
-    let e = d .before .before .before .before in
+    let d = c .before .before .before .before in
+    let e = d .before .before .before .before .before in
     does-by _ _ _ _ _ _ (sym (e .before .before .lent-verdict .ensures .0) ∙ e .enum-told .given .1) (d .perform .ensures)
 
 returns-2 : tie.Need-returns-2
@@ -22,4 +22,5 @@ returns-2 c = does-by _ _ _ _ _ _ (sym (c .before .before .before .lent-verdict 
 pub perform-spec : {M : Type 1} → statement M
 perform-spec {M} =
     let answered = tie.spec {M = M} (λ c κs. search needs) (λ c κs. search needs) (λ c κs. search needs) (λ c. search needs) perform-requires in
-    tie.close (answered (λ c. search needs) (λ c. search needs) returns (λ c. search needs) returns-2)
+    let answered = answered (λ c. search needs) (λ c. search needs) (λ c. search needs) returns (λ c. search needs) (λ c. search needs) in
+    tie.close (answered returns-2)

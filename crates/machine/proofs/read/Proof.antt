@@ -3,7 +3,7 @@ use mathlib.Core.Path.{refl, sym, ap, _∙_}
 use borrow.Author.Needs.{needs}
 use denote.Ref.{now}
 use Rattle.rules.specs.declared.Answer.{Answer}
-use Rattle.rules.specs.Outcomes.{state, outcome}
+use Rattle.rules.specs.Outcomes.{alone, outcome}
 use Rattle.rules.specs.Steps.{actOf}
 use Rattle.machine.proofs.LentLaws.{lent-laid, does-by}
 use Rattle.machine.proofs.read.Statement.{statement}
@@ -20,7 +20,7 @@ unfolding actOf
 returns c =
     let e = c .before .before in
     let v = e .before .before in
-    let s = state (now (v .before .before .before .before .before .before .args .image)) in
+    let s = alone (now (v .before .before .before .before .before .before .before .args .image)) in
     (does-by _ _ _ _ _ _ (sym (v .lent-verdict .ensures .0) ∙ e .enum-told .given .1) (ap (λ (a : Answer). outcome a s) (c .read .ensures))) .0
 
 returns-2 : tie.Need-returns-2
@@ -28,5 +28,5 @@ returns-2 c = (does-by _ _ _ _ _ _ (sym (c .before .before .before .lent-verdict
 
 pub read-spec : {M : Type 1} → statement M
 read-spec {M} =
-    let answered = tie.spec {M = M} (λ c κs. search needs) (λ c κs. search needs) (λ c κs. search needs) (λ c. search needs) read-requires in
-    tie.close (answered (λ c. search needs) returns returns-2)
+    let answered = tie.spec {M = M} (λ c κs. search needs) (λ c κs. search needs) (λ c. search needs) (λ c κs. search needs) (λ c. search needs) in
+    tie.close (answered read-requires (λ c. search needs) returns returns-2)

@@ -7,7 +7,7 @@ use Rattle.machine.proofs.run.Tie as tie
 
 run-accepted-requires : tie.Need-run-accepted-requires
 run-accepted-requires c κs =
-    let e = c .before .before .before in
+    let e = c .before .before .before .before in
     lent-laid _ _ _ _ (e .enum-told .given .1) (e .before .before .lent-verdict .ensures)
 
 returns-2 : tie.Need-returns-2
@@ -16,4 +16,5 @@ returns-2 c = run-refuses _ _ _ _ (sym (c .before .before .before .lent-verdict 
 pub run-spec : {M : Type 1} → statement M
 run-spec {M} =
     let answered = tie.spec {M = M} (λ c κs. search needs) (λ c κs. search needs) (λ c κs. search needs) (λ c. search needs) run-accepted-requires in
-    tie.close (answered (λ c. search needs) (λ c. search needs) (λ c. search needs) (λ c. search needs) returns-2)
+    let answered = answered (λ c. search needs) (λ c. search needs) (λ c. search needs) (λ c. search needs) (λ c. search needs) (λ c. search needs) in
+    tie.close (answered returns-2)

@@ -7,7 +7,7 @@ use Rattle.machine.proofs.wait.Tie as tie
 
 wait-accepted-requires : tie.Need-wait-accepted-requires
 wait-accepted-requires c κs =
-    let e = c .before .before .before in
+    let e = c .before .before .before .before in
     source-laid _ _ _ _ (e .enum-told .given .1) _ (e .before .before .wait-verdict .ensures)
 
 returns-2 : tie.Need-returns-2
@@ -16,4 +16,5 @@ returns-2 c = wait-refuses _ _ _ _ _ (sym (c .before .before .before .wait-verdi
 pub wait-spec : {M : Type 1} → statement M
 wait-spec {M} =
     let answered = tie.spec {M = M} (λ c κs. search needs) (λ c κs. search needs) (λ c κs. search needs) (λ c. search needs) wait-accepted-requires in
-    tie.close (answered (λ c. search needs) (λ c. search needs) (λ c. search needs) (λ c. search needs) returns-2)
+    let answered = answered (λ c. search needs) (λ c. search needs) (λ c. search needs) (λ c. search needs) (λ c. search needs) (λ c. search needs) in
+    tie.close (answered returns-2)

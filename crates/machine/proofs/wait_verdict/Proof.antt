@@ -31,14 +31,14 @@ counts s all good v =
 add-if1 : tie.Need-add-if1
 add-if1 c =
     let d = c .before .before .before in
-    omega (arith, counts _ _ (d .before .before .before .before .good .1 .0) (sym (d .lent-verdict .ensures .0) ∙ c .before .enum-told .given .1) .0)
+    omega (arith, counts _ _ (d .before .before .before .before .before .good .1 .0) (sym (d .lent-verdict .ensures .0) ∙ c .before .enum-told .given .1) .0)
 
 returns : tie.Need-returns
 returns c =
     let e = c .before .before in
     let d = e .before .before in
     let v = sym (d .lent-verdict .ensures .0) ∙ e .enum-told .given .1 in (
-      sym (wait-accepted _ _ _ v (omega (arith, counts _ _ (d .before .before .before .before .good .1 .0) v .1))),
+      sym (wait-accepted _ _ _ v (omega (arith, counts _ _ (d .before .before .before .before .before .good .1 .0) v .1))),
       λ _. d .lent-verdict .ensures .1 (e .enum-told .given .1),
     )
 
@@ -47,7 +47,7 @@ returns-2 c =
     let e = c .before .before in
     let d = e .before .before in
     let v = sym (d .lent-verdict .ensures .0) ∙ e .enum-told .given .1 in
-    (sym (source-next _ _ _ v (omega (arith, counts _ _ (d .before .before .before .before .good .1 .0) v .1))), λ e. not-accepted e)
+    (sym (source-next _ _ _ v (omega (arith, counts _ _ (d .before .before .before .before .before .good .1 .0) v .1))), λ e. not-accepted e)
 
 returns-3 : tie.Need-returns-3
 returns-3 c = (sym (lent-first _ _ _ _ (sym (c .before .before .before .lent-verdict .ensures .0) ∙ c .before .r .given .1)), λ e. not-accepted e)

@@ -1,12 +1,14 @@
 -- The step does what its promise says, and that is compared.
+use mathlib.Core.Path.{_∙_}
 use borrow.Author.Needs.{needs}
-use Rattle.marked.specs.Passes.{holds}
+use Rattle.marked.proofs.PassLaws.{compared}
 use Rattle.marked.proofs.resets.Statement.{statement}
 use Rattle.marked.proofs.resets.Tie as tie
 
 returns : tie.Need-returns
-unfolding holds
-returns c = rw (c .as-said .ensures, c .before .before .reset .ensures .0, c .before .before .reset .ensures .1, c .before .before .before .none .ensures)
+returns c =
+    let d = c .before .before .reset in
+    c .as-said .ensures ∙ compared _ _ _ _ (d .result) _ _ _ (c .before .before .before .none .ensures) (d .ensures)
 
 pub resets-spec : {M : Type 1} → statement M
 resets-spec =

@@ -1,18 +1,14 @@
 -- The step does what its promise says, and that is compared.
+use mathlib.Core.Path.{_∙_}
 use borrow.Author.Needs.{needs}
-use Rattle.marked.specs.Passes.{holds}
+use Rattle.marked.proofs.PassLaws.{compared}
 use Rattle.marked.proofs.returns.Statement.{statement}
 use Rattle.marked.proofs.returns.Tie as tie
 
 returns : tie.Need-returns
-unfolding holds
 returns c =
-    rw (
-      c .as-said .ensures,
-      c .before .before .return-from-interrupt .ensures .0,
-      c .before .before .return-from-interrupt .ensures .1,
-      c .before .before .before .none .ensures,
-    )
+    let d = c .before .before .return-from-interrupt in
+    c .as-said .ensures ∙ compared _ _ _ _ (d .result) _ _ _ (c .before .before .before .none .ensures) (d .ensures)
 
 pub returns-spec : {M : Type 1} → statement M
 returns-spec =

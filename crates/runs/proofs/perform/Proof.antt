@@ -6,8 +6,9 @@ use Rattle.runs.proofs.perform.Tie as tie
 
 returns : tie.Need-returns
 returns c =
-    let s = c .before .before .before .before .before .before in
-    step-stopped _ _ _ (s .pre .0) (s .pre .1) _ _ _ (c .before .before .steps-of .ensures)
+    let d = c .before .before .before .before in
+    let s = d .before .before .before .before .before .before .pre in
+    step-stopped _ _ _ (s .0) (s .1) (s .4) _ _ _ (d .steps-of .ensures)
 
 pub perform-spec : {M : Type 1} → statement M
-perform-spec = tie.close (tie.spec (λ c. search needs) (λ c κs. search needs) (λ c. search needs) returns)
+perform-spec = tie.close (tie.spec (λ c. search needs) (λ c κs. search needs) (λ c. search needs) (λ c. search needs) returns)

@@ -1,6 +1,7 @@
 -- A thin entry over `machine::return_from_interrupt`: the law `Bare` of crate lent. Assumes nothing.
 use Rattle.rules.specs.declared.Step.the-variants as step
 use Rattle.rules.specs.Channels.{listOf}
+use Rattle.rules.specs.Outcomes.{alone}
 use Rattle.rules.specs.Promises.{Returns}
 use Rattle.rules.proofs.Answer as R
 use Rattle.rules.proofs.Answer.Laws as R′
@@ -17,5 +18,5 @@ pub return-from-interrupt-spec : {M : Type 1} → stated.statement M
 unfolding code.routine
 return-from-interrupt-spec 𝓤 H 𝓜 𝓖 𝓡 =
     bare.meets R.the-row (enum-result R.the-type R′.the-laws tt) core.name
-    (λ m all a m'. Returns m (listOf all) a m') Returns (λ m cs. lent-does m cs step.Return)
+    (λ m all a m'. Returns m (listOf all) a m') Returns (λ m cs a m'. lent-does (alone m) cs step.Return a (alone m'))
     𝓤 H 𝓜 𝓖 𝓡 code.env code.calls-lent·copied core.routine code.calls-machine·return-from-interrupt (core-thm.met 𝓤 H 𝓜 𝓖 𝓡) key.name (code.unfolded 𝓤 H 𝓜 𝓡)

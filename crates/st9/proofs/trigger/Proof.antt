@@ -1,6 +1,7 @@
 -- A thin entry over `machine::trigger`: the law `One` of crate lent, for an enum. Assumes nothing.
 use Rattle.rules.specs.declared.Step.the-variants as step
 use Rattle.rules.specs.Channels.{listOf}
+use Rattle.rules.specs.Outcomes.{alone}
 use Rattle.rules.specs.Promises.{Triggers}
 use Rattle.rules.proofs.Trigger as P
 use Rattle.rules.proofs.Trigger.Laws as P′
@@ -19,5 +20,5 @@ pub trigger-spec : {M : Type 1} → stated.statement M
 unfolding code.routine
 trigger-spec 𝓤 H 𝓜 𝓖 𝓡 =
     one.meets 0 (enum P.the-type P′.the-laws tt) R.the-row (enum-result R.the-type R′.the-laws tt) core.name
-    (λ m all t a m'. Triggers m (listOf all) t a m') Triggers (λ m cs t. lent-does m cs (step.Trigger t))
+    (λ m all t a m'. Triggers m (listOf all) t a m') Triggers (λ m cs t a m'. lent-does (alone m) cs (step.Trigger t) a (alone m'))
     𝓤 H 𝓜 𝓖 𝓡 code.env code.calls-lent·copied core.routine code.calls-machine·trigger (core-thm.met 𝓤 H 𝓜 𝓖 𝓡) key.name (code.unfolded 𝓤 H 𝓜 𝓡)

@@ -27,7 +27,7 @@ struct Limits {
 
 /// An arbitration: the mark, then the top level; then the winner, if an external channel requests or some IP is set.
 #[inline(always)]
-pub fn arbitrate(image: &mut Image, tables: &Tables) -> Result<Answer, Refusal> {
+pub fn arbitrate(image: &mut Image, tables: &Tables, memory: &mut [u8]) -> Result<Answer, Refusal> {
     if image[MARK] != 0 {
         return Ok(Answer::Nothing);
     }
@@ -45,7 +45,7 @@ pub fn arbitrate(image: &mut Image, tables: &Tables) -> Result<Answer, Refusal> 
     }
     match winner(image, tables, cicr, externals, idcrs) {
         NONE => Ok(Answer::Nothing),
-        request => serve(image, tables, cicr, request),
+        request => serve(image, tables, memory, cicr, request),
     }
 }
 
@@ -118,12 +118,18 @@ fn best_record(image: &Image, tables: &Tables, limits: Limits) -> u32 {
 
 /// Serves the winner: DMA by a transfer, an interrupt by its acknowledgement.
 #[inline(always)]
-fn serve(image: &mut Image, tables: &Tables, cicr: u8, request: u32) -> Result<Answer, Refusal> {
+fn serve(
+    image: &mut Image,
+    tables: &Tables,
+    memory: &mut [u8],
+    cicr: u8,
+    request: u32,
+) -> Result<Answer, Refusal> {
     let (rank, number) = (request / RANK, request % RANK);
     let source = number as u8;
     if rank % 2 == 0 {
         let record = &tables.records[(number - EXTERNAL_CHANNELS) as usize];
-        let ended = transfer(image, record)?;
+        let ended = transfer(image, memory, record)?;
         return Ok(Answer::Transferred { source, ended });
     }
     let level = (rank / 2) as u8;

@@ -9,12 +9,13 @@ const RECORD: usize = 7;
 /// The bits of IDCR that exist.
 const IDCR_BITS: u8 = idcr::IP | idcr::DM | idcr::IM | idcr::PRL;
 
-/// Where a record's registers stand in the image, and its direction. DAPR is a register like any other here.
+/// Where a record's registers stand in the image, and its direction.
 #[derive(Clone, Copy, Default)]
 pub struct Record {
     pub idcr: u16,
     pub ivr: u16,
     pub dcpr: u16,
+    pub dapr: u16,
     pub data: u16,
     /// As wide as the others, so that the records are cleared as one block.
     pub direction: u16,
@@ -80,6 +81,12 @@ fn laid_out(bytes: &[u8], exists: &mut [u8; MARK]) -> Option<Record> {
     if taken != 0 {
         return None;
     }
-    let (idcr, ivr, dcpr, data) = (place(idcr), place(ivr), place(dcpr), place(data));
-    Some(Record { idcr, ivr, dcpr, data, direction: direction.into() })
+    Some(Record {
+        idcr: place(idcr),
+        ivr: place(ivr),
+        dcpr: place(dcpr),
+        dapr: place(dapr),
+        data: place(data),
+        direction: direction.into(),
+    })
 }

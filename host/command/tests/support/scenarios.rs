@@ -6,7 +6,7 @@ use super::support::Random;
 
 /// What stands before the steps. Registers that the rules look at have values that make something happen, or any.
 pub fn start(random: &mut Random) -> Vec<String> {
-    let rows: [(&str, &[&str]); 14] = [
+    let rows: [(&str, &[&str]); 17] = [
         ("CICR", &["97h", "9Fh", "95h", "87h", "B7h", "D7h", "DCh"]),
         ("EIMR", &["FFh", "FFh", "5Ah"]),
         ("EIPR", &["00h", "00h", "14h", "81h"]),
@@ -16,11 +16,14 @@ pub fn start(random: &mut Random) -> Vec<String> {
         ("NICR", &["00h", "00h", "80h", "24h"]),
         ("MARK", &["0", "0", "0", "0", "3"]),
         ("PPR", &["00h", "24h", "27h"]),
-        ("R16", &["20", "16", "17", "223"]),
+        ("R16", &["20", "16", "17", "223", "0"]),
         ("R17", &["1", "2", "0"]),
+        ("R18", &["0", "0", "0", "1"]),
+        ("R19", &["0", "5", "15", "16"]),
         ("R240.p9", &["1Ah", "3Ah", "0Bh", "12h", "30h", "FFh"]),
         ("R241.p9", &["35h", "A0h"]),
-        ("R242.p9", &["11h", "11h", "11h", "10h", "F1h"]),
+        ("R242.p9", &["11h", "11h", "11h", "10h", "10h", "F1h"]),
+        ("R243.p9", &["12h", "13h", "10h", "E0h"]),
     ];
     let mut lines = vec!["image zero".to_string()];
     for (place, values) in rows {
@@ -30,6 +33,7 @@ pub fn start(random: &mut Random) -> Vec<String> {
         };
         lines.push(format!("set {place} {value}"));
     }
+    lines.extend(random.pick(&[None, Some("memory 16"), Some("memory 16")]).map(String::from));
     let direction = random.pick(&["in", "out"]);
     lines.push(format!("channel page=9 idcr=240 ivr=241 dcpr=242 dapr=243 data=244 {direction}"));
     for name in ["name FAN INTC0", "name UART CH0", "name WATCH INTA0"] {

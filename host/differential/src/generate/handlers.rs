@@ -77,7 +77,7 @@ impl Handlers<'_> {
 
     fn push(&mut self, step: u64) {
         let step = with_unused(self.random, step);
-        model::step(&mut self.image, self.channels, step);
+        model::step(&mut self.image, self.channels, &mut [], step);
         self.words.push(step);
     }
 

@@ -12,8 +12,8 @@ pub(crate) const EIPLR: usize = 245;
 pub(crate) const EIVR: usize = 246;
 pub(crate) const NICR: usize = 247;
 
-/// An image of the right length: random, all FFh or 00h, or (mostly) one in which arbitrations find something.
-pub fn image(random: &mut Random, channels: &[Channel]) -> Vec<u8> {
+/// An image of the right length for a memory of so many bytes: random, all FFh or 00h, or (mostly) one in which arbitrations find something.
+pub fn image(random: &mut Random, channels: &[Channel], length: usize) -> Vec<u8> {
     let mut image = match random.below(20) {
         0 => return vec![0xFF; IMAGE_LENGTH],
         1 => return vec![0x00; IMAGE_LENGTH],
@@ -22,7 +22,7 @@ pub fn image(random: &mut Random, channels: &[Channel]) -> Vec<u8> {
         _ => vec![0x00; IMAGE_LENGTH],
     };
     set_control(random, &mut image, channels);
-    set_records(random, &mut image, channels);
+    set_records(random, &mut image, channels, length);
     image
 }
 
@@ -96,31 +96,52 @@ pub(crate) fn nicr(random: &mut Random) -> u8 {
 }
 
 /// The registers of the records, in one image out of three with no DMA, and the pairs in the register file.
-fn set_records(random: &mut Random, image: &mut [u8], channels: &[Channel]) {
+fn set_records(random: &mut Random, image: &mut [u8], channels: &[Channel], length: usize) {
     let kept = if random.chance(1, 3) { !0x10 } else { 0xFF };
     for channel in channels {
         image[paged(channel.page, channel.idcr)] = random.byte() & kept;
         image[paged(channel.page, channel.ivr)] = random.byte();
         image[paged(channel.page, channel.data)] = random.byte();
-        let dcpr = dcpr(random);
-        image[paged(channel.page, channel.dcpr)] = dcpr;
-        set_pair(random, image, dcpr & 0xFE);
+        let dcpr = pointer(random);
+        set_block(random, image, channel, dcpr, length);
     }
 }
 
-/// A DCPR: mostly odd, often near the end of the register file.
-pub(crate) fn dcpr(random: &mut Random) -> u8 {
-    match random.below(16) {
-        0 => random.byte() & 0xFE,
-        1 => random.byte() | 1,
-        2 => random.pick(&[0xDE, 0xDF, 0xE0, 0xE1, 0xFE, 0xFF]),
-        3 => 0xDF,
-        _ => random.between(0, 111) * 2 + 1,
+/// DCPR and DAPR of a record, and what they name: with an odd DCPR the address and the counter of a block in the register file, with an even one those of
+/// a block in memory.
+fn set_block(random: &mut Random, image: &mut [u8], channel: &Channel, dcpr: u8, length: usize) {
+    let dapr = dapr(random, dcpr);
+    image[paged(channel.page, channel.dcpr)] = dcpr;
+    image[paged(channel.page, channel.dapr)] = dapr;
+    if dcpr % 2 == 1 {
+        set_file_pair(random, image, dcpr & 0xFE);
+    } else {
+        set_word(image, dcpr, counter(random));
+        // After the counter: where the pairs coincide it is mostly a good address.
+        set_word(image, dapr & 0xFE, address(random, length));
     }
 }
 
-/// The address and the counter at a pair: edges of the register file, the pair itself, a counter at its end.
-fn set_pair(random: &mut Random, image: &mut [u8], first: u8) {
+/// A DCPR: any path, often near the end of the register file.
+pub(crate) fn pointer(random: &mut Random) -> u8 {
+    match random.below(32) {
+        0 => random.byte(),
+        1 | 2 => random.pick(&[0xDE, 0xDF, 0xE0, 0xE1]),
+        3 => random.pick(&[0xDE, 0xDF, 0xFE, 0xFF]),
+        _ => random.between(0, 223),
+    }
+}
+
+/// A DAPR: likewise, and often of DCPR's own pair.
+pub(crate) fn dapr(random: &mut Random, dcpr: u8) -> u8 {
+    match random.below(6) {
+        0 => dcpr & 0xFE | random.between(0, 1),
+        _ => pointer(random),
+    }
+}
+
+/// The address and the counter at a pair of the register file: its edges, the pair itself, a counter at its end.
+fn set_file_pair(random: &mut Random, image: &mut [u8], first: u8) {
     if first > 222 {
         return;
     }
@@ -137,4 +158,52 @@ fn set_pair(random: &mut Random, image: &mut [u8], first: u8) {
         2 => 2,
         _ => random.byte(),
     };
+}
+
+/// The 16 bits of a pair, high byte first; none beyond the register file.
+fn set_word(image: &mut [u8], first: u8, word: u16) {
+    if first <= 222 {
+        let first = usize::from(first);
+        (image[first], image[first + 1]) = ((word >> 8) as u8, word as u8);
+    }
+}
+
+/// An address of a memory: mostly within it, often at its end, or where one of its bytes wraps.
+pub(crate) fn address(random: &mut Random, length: usize) -> u16 {
+    match random.below(16) {
+        0 => length as u16,
+        1 | 2 => length.wrapping_sub(1) as u16,
+        3 => random.pick(&[0x0000, 0x0001, 0x00FF, 0x0100, 0xFFFE, 0xFFFF]),
+        4 => random.any() as u16,
+        _ => random.below(length.max(1) as u64) as u16,
+    }
+}
+
+/// A counter: at its end, or where one of its bytes wraps.
+pub(crate) fn counter(random: &mut Random) -> u16 {
+    match random.below(8) {
+        0 => 0,
+        1..=3 => 1,
+        4 => 2,
+        5 => random.pick(&[0x0100, 0x0101, 0xFFFF]),
+        _ => random.any() as u16,
+    }
+}
+
+/// An image in which most records request DMA in memory, above the current level.
+pub fn transferring_image(random: &mut Random, channels: &[Channel], length: usize) -> Vec<u8> {
+    let mut image = self::image(random, channels, length);
+    image[MARK] = 0;
+    image[CICR] = random.byte() & 0x98 | random.pick(&[7, 7, 5]);
+    for channel in channels {
+        if random.chance(1, 8) {
+            continue;
+        }
+        // Absent bits any; IP mostly, DM, IM any, a level.
+        let idcr = random.byte() & 0xC8 | 0x10 | random.pick(&[0x20, 0x20, 0]);
+        image[paged(channel.page, channel.idcr)] = idcr | random.between(0, 6);
+        let dcpr = pointer(random) & 0xFE;
+        set_block(random, &mut image, channel, dcpr, length);
+    }
+    image
 }

@@ -1,16 +1,18 @@
-//! Images, channel lists and steps, mostly such that something happens.
+//! Images, channel lists, memories and steps, mostly such that something happens.
 
 mod handlers;
 mod images;
 mod lists;
+mod memories;
 mod steps;
 mod waiting;
 
 pub use handlers::list_of_handlers;
-pub use images::{damaged_image, image};
+pub use images::{damaged_image, image, transferring_image};
 pub use lists::{bytes, damaged_bytes, list};
+pub use memories::{damaged_memory, memory};
 pub use steps::{steps, Flavour};
-pub use waiting::{break_premise, list_of_calls, waiting_image};
+pub use waiting::{break_premise, list_of_calls, refused_step, waiting_image};
 
 use crate::Random;
 

@@ -1,6 +1,6 @@
 //! Steps.
 
-use super::images::{cicr, dcpr, nicr, ppr, PPR};
+use super::images::{address, cicr, counter, dapr, nicr, pointer, ppr, PPR};
 use super::{bad_direction, bad_number};
 use crate::Random;
 use model::{word, Channel};
@@ -16,19 +16,20 @@ pub enum Flavour {
     Bad,
 }
 
-/// What steps are made for: a channel list, and the page that PPR selects by then.
+/// What steps are made for: a channel list, a memory, and the page that PPR selects by then.
 struct Scene<'a> {
     channels: &'a [Channel],
+    /// The memory's length.
+    memory: usize,
     page: u8,
     /// Whether registers of the wrong page are wanted.
     strays: bool,
 }
 
-/// `count` steps of all kinds for an image and a channel list.
+/// `count` steps of all kinds for an image, a channel list and a memory of a length.
 pub fn steps(
     random: &mut Random,
-    image: &[u8],
-    channels: &[Channel],
+    (image, channels, memory): (&[u8], &[Channel], usize),
     flavour: Flavour,
     count: usize,
 ) -> Vec<u64> {
@@ -39,6 +40,7 @@ pub fn steps(
     };
     let mut scene = Scene {
         channels,
+        memory,
         page: image.get(PPR).map_or(0, |ppr| ppr >> 2),
         strays: !matches!(flavour, Flavour::Good),
     };
@@ -116,10 +118,33 @@ fn write(random: &mut Random, scene: &Scene) -> u64 {
         4 if scene.page == 0 => word::write(247, nicr(random)),
         5 if scene.page == 0 => word::write(244, random.byte() | random.byte()),
         6 => match scene.channels.iter().find(on_page) {
-            Some(channel) => word::write(channel.dcpr.into(), dcpr(random)),
+            Some(channel) => write_pointer(random, channel),
             None => word::write(234, 0),
         },
+        7 => write_half(random, scene),
         _ => word::write(register(random, scene), random.byte()),
+    }
+}
+
+/// A write of DCPR or DAPR.
+fn write_pointer(random: &mut Random, channel: &Channel) -> u64 {
+    let dcpr = pointer(random);
+    if random.chance(1, 2) {
+        word::write(channel.dcpr.into(), dcpr)
+    } else {
+        word::write(channel.dapr.into(), dapr(random, dcpr))
+    }
+}
+
+/// A write of one byte of what may be an address or a counter, in the register file.
+fn write_half(random: &mut Random, scene: &Scene) -> u64 {
+    let words = [address(random, scene.memory), counter(random)];
+    let [high, low] = random.pick(&words).to_be_bytes();
+    let first = 2 * random.below(112) as u32;
+    if random.chance(1, 2) {
+        word::write(first, high)
+    } else {
+        word::write(first + 1, low)
     }
 }
 

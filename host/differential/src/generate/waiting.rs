@@ -108,13 +108,14 @@ pub fn list_of_calls(random: &mut Random, channels: &[Channel], count: usize) ->
 }
 
 /// A step that is refused in every image: a bad number, an unknown kind or a register over 255.
-pub(crate) fn refused_step(random: &mut Random, channels: &[Channel]) -> u64 {
+pub fn refused_step(random: &mut Random, channels: &[Channel]) -> u64 {
     let mut image = [0; IMAGE_LENGTH];
     loop {
         let step = bad_step(random, channels);
         // Registers of a page depend on PPR.
         let paged = matches!(step >> 48, 0 | 1) && step >> 8 & 0xFF_FFFF < 256;
-        if !paged && matches!(model::step(&mut image, channels, step), model::Answer::Refused(_)) {
+        let answer = model::step(&mut image, channels, &mut [], step);
+        if !paged && matches!(answer, model::Answer::Refused(_)) {
             return step;
         }
     }

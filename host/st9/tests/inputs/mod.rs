@@ -1,4 +1,4 @@
-//! Random images, channel lists, sources and words, good and bad.
+//! Random images, channel lists, memories, sources and words, good and bad.
 
 use st9::{Channel, Source, Step};
 
@@ -26,7 +26,21 @@ impl Random {
         if let (Some(mark), 0..=5) = (image.get_mut(st9::MARK), self.below(8)) {
             *mark = 0;
         }
+        if self.below(2) == 0 {
+            // The high bytes of all pairs: 16-bit addresses that a short memory has.
+            image.iter_mut().take(224).step_by(2).for_each(|byte| *byte = 0);
+        }
         image
+    }
+
+    pub fn memory(&mut self) -> Vec<u8> {
+        let length = match self.below(32) {
+            0 => st9::MOST_MEMORY + 1 + self.below(9) as usize,
+            1 => st9::MOST_MEMORY,
+            2..=5 => 0,
+            _ => self.below(400) as usize,
+        };
+        vec![self.next() as u8; length]
     }
 
     pub fn channels(&mut self) -> Vec<Channel> {
@@ -62,11 +76,11 @@ impl Random {
         (0..self.below(12)).map(|_| self.word()).collect()
     }
 
-    /// Any image, channel list, source and words; every second time such that the premises of a bound can hold.
+    /// Any image, channel list, memory, source and words; every second time such that the premises of a bound can hold.
     pub fn asked(&mut self) -> Asked {
         let source = Source(self.below(22) as u32);
         let (image, channels, words) = (self.image(), self.channels(), self.words());
-        let mut asked = Asked { image, channels, source, words };
+        let mut asked = Asked { image, channels, memory: self.memory(), source, words };
         if self.below(2) == 0 {
             meet_premises(&mut asked.image);
             asked.channels.clear();
@@ -100,6 +114,7 @@ impl Random {
 pub struct Asked {
     pub image: Vec<u8>,
     pub channels: Vec<Channel>,
+    pub memory: Vec<u8>,
     pub source: Source,
     pub words: Vec<u64>,
 }

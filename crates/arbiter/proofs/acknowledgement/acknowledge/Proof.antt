@@ -6,7 +6,7 @@ use Rattle.arbiter.proofs.acknowledgement.acknowledge.Tie as tie
 
 returns : tie.Need-returns
 unfolding granted acknowledged
-returns c =
+returns c memory =
     let p = c .before .before .before .before .before .before in
     let n = p .before .before .before .before in
     rw (c .before .before .put-at .ensures, p .clear-pending .ensures, n .nest .ensures, n .before .before .vector-of .ensures)

@@ -11,7 +11,7 @@ returns c =
     let a = p .before .before .before .before .before .args in (
       p .bound .result,
       c .of-bound .ensures,
-      packed-bounds (a .image .now) (a .channels .now) (u .result) (u .ensures) (a .source) (a .words .now) (p .bound .result) (p .bound .ensures),
+      packed-bounds (a .channels .now) (u .result) (u .ensures) (a .image .now) (a .source) (a .words .now) (p .bound .result) (p .bound .ensures),
     )
 
 pub st9-bound-spec : {M : Type 1} → statement M

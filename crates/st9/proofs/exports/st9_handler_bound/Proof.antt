@@ -11,7 +11,7 @@ returns c =
     let a = p .before .before .before .before .before .args in (
       p .handler-bound .result,
       c .of-bound .ensures,
-      packed-handler-bounds (a .image .now) (a .channels .now) (u .result) (u .ensures) (a .source) (a .words .now) (p .handler-bound .result) (p .handler-bound .ensures),
+      packed-handler-bounds (a .channels .now) (u .result) (u .ensures) (a .image .now) (a .source) (a .words .now) (p .handler-bound .result) (p .handler-bound .ensures),
     )
 
 pub st9-handler-bound-spec : {M : Type 1} → statement M
