@@ -1,6 +1,6 @@
 -- Document 01, "Refusal numbers", the column "given exactly when": a step is refused with a number where the table says, and only there.
 -- Assumes nothing.
-use mathlib.Core.Path.{_≡_, refl, ap, subst}
+use mathlib.Core.Path.{_≡_, refl, ap, subst, _∙_}
 use mathlib.Core.Logic.{_≢_, _⊎_, inl, inr}
 use mathlib.Core.Bool.{true, false, _||_}
 use mathlib.Core.List.{List}
@@ -39,7 +39,7 @@ use Rattle.rules.proofs.Verdicts.{verdict-elim}
 use Rattle.rules.proofs.Bools.{cond-elim, or-cases, or-off, or-off-r}
 use Rattle.rules.proofs.WriteLaws.{write-refused, read-refused}
 use Rattle.rules.proofs.SelectionLaws.{pin-refused, nmi-verdict, request-verdict, kind-verdict}
-use Rattle.rules.proofs.TransferLaws.{transfer-pointer}
+use Rattle.rules.proofs.TransferLaws.{with-registers, with-memory, transfer-pointer}
 use Rattle.rules.proofs.MemoryTransferLaws.{memory-pointer, memory-address}
 use Rattle.rules.proofs.Refusals.{Lent, lent-means, length-first, list-second, memory-third, accepted-acts, unknown-step}
 
@@ -230,8 +230,8 @@ refused-whenever s cs x refusal.Length h = rw (length-first s cs x h)
 refused-whenever s cs x refusal.List (h, f) = rw (list-second s cs x h f)
 refused-whenever s cs x refusal.Register (l, r, a, f) = accessed s cs x l r a f
 refused-whenever s cs x refusal.Number (l, t, e, h) = triggered s cs x l t refusal.Number e (bad-number cs t h)
-refused-whenever s cs x refusal.Address (l, w, h, z, n, p, a) = transfers s cs x l w _ h (memory-address s (recordOf cs w) w z n p a)
-refused-whenever s cs x refusal.Pointer (l, w, h, inl o) = transfers s cs x l w _ h (transfer-pointer s (recordOf cs w) w (o .0) (o .1))
-refused-whenever s cs x refusal.Pointer (l, w, h, inr o) = transfers s cs x l w _ h (memory-pointer s (recordOf cs w) w (o .0) (o .1))
+refused-whenever s cs x refusal.Address (l, w, h, z, n, p, a) = transfers s cs x l w _ h (with-memory s (recordOf cs w) w z ∙ memory-address s (recordOf cs w) w n p a)
+refused-whenever s cs x refusal.Pointer (l, w, h, inl o) = transfers s cs x l w _ h (with-registers s (recordOf cs w) w (o .0) ∙ transfer-pointer s (recordOf cs w) w (o .1))
+refused-whenever s cs x refusal.Pointer (l, w, h, inr o) = transfers s cs x l w _ h (with-memory s (recordOf cs w) w (o .0) ∙ memory-pointer s (recordOf cs w) w (o .1))
 refused-whenever s cs x refusal.Kind (l, h) = unknown s cs x l h
 refused-whenever s cs x refusal.Memory (h, f, k) = rw (memory-third s cs x h f k)

@@ -16,7 +16,7 @@ use Rattle.rules.specs.declared.Refusal.the-variants as refusal
 use Rattle.rules.specs.Image.{Image, imageLength, at, has, bitOf}
 use Rattle.rules.specs.Channels.{idcrByte, dcprByte, daprByte, dataByte, IP, IM}
 use Rattle.rules.specs.Outcomes.{State, Outcome, refuse}
-use Rattle.rules.specs.Transfer.{pairOf, finished, addressPairOf, wordAt, putWord, movedMemory, oneMoreWord, lessOneWord, advancedWords, servedMemory, memoryTransfer, transferOf}
+use Rattle.rules.specs.Transfer.{pairOf, finished, addressPairOf, wordAt, putWord, movedMemory, oneMoreWord, lessOneWord, advancedWords, servedMemory, memoryTransfer}
 use Rattle.rules.proofs.Bools.{cond-elim, or-r, true-or}
 use Rattle.rules.proofs.ChannelLaws.{OnPage}
 use Rattle.rules.proofs.TransferLaws.{Stands, ended-one, settled-byte, settled-bit, settled-IP}
@@ -30,29 +30,29 @@ memoryCounter m c = wordAt m (pairOf m c)
 
 -- ---- when it is refused
 
-module _ (lent : State) (c : Channel) (s : ℕ) (even : at (lent .image) (dcprByte c) % 2 ≡ 0) where
+module _ (lent : State) (c : Channel) (s : ℕ) where
   abbrev image : Image
   image = lent .image
 
   -- a pointer over 222 is, first,
-  pub memory-pointer : (222 < pairOf image c) ⊎ (222 < addressPairOf image c) → transferOf lent c s ≡ refuse refusal.Pointer lent
-  unfolding transferOf memoryTransfer
-  memory-pointer (inl h) = rw (even, lt-ltb 222 (pairOf image c) h)
-  memory-pointer (inr h) = rw (even, or-r (ltb 222 (pairOf image c)) (ltb 222 (addressPairOf image c)) (lt-ltb 222 (addressPairOf image c) h))
+  pub memory-pointer : (222 < pairOf image c) ⊎ (222 < addressPairOf image c) → memoryTransfer lent c s ≡ refuse refusal.Pointer lent
+  unfolding memoryTransfer
+  memory-pointer (inl h) = rw (lt-ltb 222 (pairOf image c) h)
+  memory-pointer (inr h) = rw (or-r (ltb 222 (pairOf image c)) (ltb 222 (addressPairOf image c)) (lt-ltb 222 (addressPairOf image c) h))
 
   -- then an address past the memory,
   pub memory-address : pairOf image c ≤ 222 → addressPairOf image c ≤ 222 → length (lent .memory) ≤ memoryAddress image c
-      → transferOf lent c s ≡ refuse refusal.Address lent
-  unfolding transferOf memoryTransfer
+      → memoryTransfer lent c s ≡ refuse refusal.Address lent
+  unfolding memoryTransfer
   memory-address n p a =
-      rw (even, le-ltb 222 (pairOf image c) n, le-ltb 222 (addressPairOf image c) p, le-ltb (memoryAddress image c) (length (lent .memory)) a)
+      rw (le-ltb 222 (pairOf image c) n, le-ltb 222 (addressPairOf image c) p, le-ltb (memoryAddress image c) (length (lent .memory)) a)
 
   -- and any other request is served
   pub memory-served : pairOf image c ≤ 222 → addressPairOf image c ≤ 222 → memoryAddress image c < length (lent .memory)
-      → transferOf lent c s ≡ servedMemory lent c s (addressPairOf image c) (pairOf image c) (memoryAddress image c) (memoryCounter image c)
-  unfolding transferOf memoryTransfer
+      → memoryTransfer lent c s ≡ servedMemory lent c s (addressPairOf image c) (pairOf image c) (memoryAddress image c) (memoryCounter image c)
+  unfolding memoryTransfer
   memory-served n p a =
-      rw (even, le-ltb 222 (pairOf image c) n, le-ltb 222 (addressPairOf image c) p, lt-ltb (memoryAddress image c) (length (lent .memory)) a)
+      rw (le-ltb 222 (pairOf image c) n, le-ltb 222 (addressPairOf image c) p, lt-ltb (memoryAddress image c) (length (lent .memory)) a)
 
 -- ---- the numbers in figures
 

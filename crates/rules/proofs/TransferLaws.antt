@@ -18,7 +18,7 @@ use Rattle.rules.specs.declared.Refusal.the-variants as refusal
 use Rattle.rules.specs.Image.{Image, imageLength, at, has, put, bitOf}
 use Rattle.rules.specs.Channels.{recordAt, idcrByte, dcprByte, dataByte, listOk, IP, DM, IM}
 use Rattle.rules.specs.Outcomes.{State, Outcome, refuse}
-use Rattle.rules.specs.Transfer.{pairOf, movedByte, lessOne, advanced, settled, finished, served, registerTransfer, transferOf}
+use Rattle.rules.specs.Transfer.{pairOf, movedByte, lessOne, advanced, settled, finished, served, registerTransfer, memoryTransfer, transferOf}
 use Rattle.rules.proofs.Bools.{cond-elim, cond-and, or-r}
 use Rattle.rules.proofs.ImageLaws.{put-length, at-put-other, has-put-same, has-put-bit, has-put-other}
 use Rattle.rules.proofs.ChannelLaws.{OnPage, record-in-range, record-ok, register-range, registers-apart}
@@ -30,24 +30,32 @@ addressOf m c = at m (pairOf m c)
 abbrev pub counterOf : Image → Channel → ℕ
 counterOf m c = at m (pairOf m c + 1)
 
--- ---- when it is refused
+-- ---- which path, and when it is refused
 
 module _ (lent : State) (c : Channel) (s : ℕ) where
   abbrev image : Image
   image = lent .image
 
-  -- with DCPR bit 0 = 1, a pair or an address over R223 is,
-  pub transfer-pointer : at image (dcprByte c) % 2 ≡ 1 → (223 < pairOf image c) ⊎ (223 < at image (pairOf image c)) → transferOf lent c s ≡ refuse refusal.Pointer lent
-  unfolding transferOf registerTransfer
-  transfer-pointer e (inl h) = rw (e, lt-ltb 223 (pairOf image c) h)
-  transfer-pointer e (inr h) =
-      rw (e, or-r (ltb 223 (pairOf image c)) (ltb 223 (at image (pairOf image c))) (lt-ltb 223 (at image (pairOf image c)) h))
+  -- DCPR bit 0 chooses
+  pub with-registers : at image (dcprByte c) % 2 ≡ 1 → transferOf lent c s ≡ registerTransfer lent c s
+  unfolding transferOf
+  with-registers e = rw e
+
+  pub with-memory : at image (dcprByte c) % 2 ≡ 0 → transferOf lent c s ≡ memoryTransfer lent c s
+  unfolding transferOf
+  with-memory e = rw e
+
+  -- with the register file a pair or an address over R223 is refused,
+  pub transfer-pointer : (223 < pairOf image c) ⊎ (223 < addressOf image c) → registerTransfer lent c s ≡ refuse refusal.Pointer lent
+  unfolding registerTransfer
+  transfer-pointer (inl h) = rw (lt-ltb 223 (pairOf image c) h)
+  transfer-pointer (inr h) = rw (or-r (ltb 223 (pairOf image c)) (ltb 223 (addressOf image c)) (lt-ltb 223 (addressOf image c) h))
 
   -- and any other request is served
-  pub transfer-served : at image (dcprByte c) % 2 ≡ 1 → pairOf image c ≤ 223 → at image (pairOf image c) ≤ 223
-      → transferOf lent c s ≡ served lent c s (pairOf image c) (addressOf image c) (counterOf image c)
-  unfolding transferOf registerTransfer
-  transfer-served e n a = rw (e, le-ltb 223 (pairOf image c) n, le-ltb 223 (at image (pairOf image c)) a)
+  pub transfer-served : pairOf image c ≤ 223 → addressOf image c ≤ 223
+      → registerTransfer lent c s ≡ served lent c s (pairOf image c) (addressOf image c) (counterOf image c)
+  unfolding registerTransfer
+  transfer-served n a = rw (le-ltb 223 (pairOf image c) n, le-ltb 223 (addressOf image c) a)
 
 -- the pair is the even register of the two that DCPR names
 pub pair-even : (m : Image) (c : Channel) → (pairOf m c % 2 ≡ 0) × (pairOf m c / 2 ≡ at m (dcprByte c) / 2)
