@@ -1,4 +1,6 @@
 // Bits of a byte.
+#![tactic(auto)]
+
 ghost use Rattle.std.specs.Prelude.{◌≡◌, ◌<◌};
 ghost use Rattle.bits.specs.Bits.{bit, put_bit};
 

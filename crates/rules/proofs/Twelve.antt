@@ -12,4 +12,4 @@ use Rattle.rules.specs.contracts.Channels as S
 use Rattle.rules.proofs.Channels.TheLaws as S'
 
 pub twelve : (c : Channels) (vs : List Val) → Is S.the_row c vs → length c.items ≡ most_records
-twelve c vs g = let h = (LL.owed S.the_type S'.the_laws c vs g).0 in sym (length-map c.items (T.the_field).into) ∙ h.1.0.1
+twelve c vs g = (LL.owed S.the_type S'.the_laws c vs g).0.1.0.1

@@ -1,4 +1,5 @@
 // The numbers and the types that every crate of the model shares.
+#![tactic(auto)]
 
 // The bytes of an image.
 pub const IMAGE_LENGTH: usize = 1265;
@@ -73,7 +74,7 @@ pub const LAST_PAIR: usize = 222;
 
 // A channel record: its page, the registers there of its IDCR, IVR, DCPR, DAPR and data (`io`), and the direction of its transfers
 // (0: peripheral to register file or memory, 1: the reverse).
-#[derive(Drop)]
+#[derive(Clone, Copy)]
 pub struct Channel {
     pub page: u8,
     pub idcr: u8,
@@ -85,14 +86,14 @@ pub struct Channel {
 }
 
 // A channel list by value: the first `count` of the items. A count over twelve stands for a list that is too long.
-#[derive(Drop)]
+#[derive(Clone, Copy)]
 pub struct Channels {
     pub items: [Channel; MOST_RECORDS],
     pub count: usize,
 }
 
 // Where a register number goes: a byte of the image with the bits that exist there, or nowhere.
-#[derive(Drop)]
+#[derive(Clone, Copy)]
 pub enum Place {
     At(usize, u8),
     Unmodelled,
@@ -100,7 +101,7 @@ pub enum Place {
 
 // The reasons for a refusal, numbers 1 to 8 of documents 01 and 02 in order: the image's length, the list, a register or viewed page, a pin, direction, record
 // or source number, a memory address, a pointer over R223, an unknown kind, the memory's length.
-#[derive(Drop)]
+#[derive(Clone, Copy)]
 pub enum Refusal {
     Length,
     List,
@@ -113,14 +114,14 @@ pub enum Refusal {
 }
 
 // Whether what is lent, or what is asked for, is accepted.
-#[derive(Drop)]
+#[derive(Clone, Copy)]
 pub enum Verdict {
     Accepted,
     Refused(Refusal),
 }
 
 // What a trigger did to a pending bit.
-#[derive(Drop)]
+#[derive(Clone, Copy)]
 pub enum Effect {
     NotSelected,
     Raised,
@@ -129,7 +130,7 @@ pub enum Effect {
 
 // What can set a pending bit from outside: a pin edge, the watchdog's end of count, an NMI edge, a channel request, or a kind that is none of
 // these. Directions of an edge: 0 falling, 1 rising.
-#[derive(Drop)]
+#[derive(Clone, Copy)]
 pub enum Trigger {
     Pin { pin: u32, direction: u8 },
     Watchdog,
@@ -139,7 +140,7 @@ pub enum Trigger {
 }
 
 // What a source asks for, with its level.
-#[derive(Drop)]
+#[derive(Clone, Copy)]
 pub enum Request {
     Nothing,
     Dma(u8),
@@ -147,7 +148,7 @@ pub enum Request {
 }
 
 // The request that arbitration chose.
-#[derive(Drop)]
+#[derive(Clone, Copy)]
 pub enum Winner {
     Nobody,
     Dma { source: u8 },
@@ -155,7 +156,7 @@ pub enum Winner {
 }
 
 // One step of a run.
-#[derive(Drop)]
+#[derive(Clone, Copy)]
 pub enum Step {
     Read(u32),
     Write(u32, u8),
@@ -167,13 +168,13 @@ pub enum Step {
 }
 
 // The pending bits that a write took from 1 to 0.
-#[derive(Drop)]
+#[derive(Clone, Copy)]
 pub struct Losses {
     pub eipr: u8,
 }
 
 // What a step answers. A trigger answers for the maskable bit, then for TLIP; `Nothing` is an arbitration's "none". `NoStep` is the last answer of an empty run.
-#[derive(Drop)]
+#[derive(Clone, Copy)]
 pub enum Answer {
     NoStep,
     Byte(u8),
@@ -189,7 +190,7 @@ pub enum Answer {
 }
 
 // What is asked of an answer: whether it is a refusal, a trigger with what it did to the maskable bit, or an acknowledged source.
-#[derive(Drop)]
+#[derive(Clone, Copy)]
 pub enum AnswerKind {
     Plain,
     Triggered(Effect),
@@ -198,7 +199,7 @@ pub enum AnswerKind {
 }
 
 // What a run answers: refused before any step, refused at a step, or the steps done and the last answer.
-#[derive(Drop)]
+#[derive(Clone, Copy)]
 pub enum Ran {
     Refused(Refusal),
     RefusedAt { refusal: Refusal, index: usize },
@@ -206,7 +207,7 @@ pub enum Ran {
 }
 
 // What a wait report answers, with the arbitrations made.
-#[derive(Drop)]
+#[derive(Clone, Copy)]
 pub enum Waited {
     Refused(Refusal),
     RefusedAt {
@@ -224,7 +225,7 @@ pub enum Waited {
 
 // What a bound over reads and writes rests on, in the order in which a change of it is answered: our pending bit; the mode; the current level; the top
 // level's enables; and each source's mask, DMA enable and level.
-#[derive(Drop)]
+#[derive(Clone, Copy)]
 pub enum Basis {
     Pending,
     Mode,
@@ -239,7 +240,7 @@ pub enum Basis {
 // else the bound. Demand 3's answers the first step of another kind, and only where there is none the first arbitration with interrupts disabled; that over reads
 // and writes the first step that breaks any premise, and it alone answers `Changed`. `Within` has the unmasked sources outranking ours that are pending at the
 // start (H), how often the steps trigger such a source or, in the second, raise its pending bit (E), and the bound H + E + 1.
-#[derive(Drop)]
+#[derive(Clone, Copy)]
 pub enum Bounded {
     Refused(Refusal),
     Nested,
@@ -269,7 +270,7 @@ pub enum Bounded {
 // An answer as numbers, as C has it: its kind, document 01's number where something is refused (else 0), the steps done or the index of a step, and the
 // values of its kind. specs/Encodings says which.
 #[repr(C)]
-#[derive(Drop)]
+#[derive(Clone, Copy)]
 pub struct Flat {
     pub kind: u64,
     pub refusal: u64,
