@@ -1,4 +1,6 @@
 // Answers as numbers, for C and for comparing: a kind for each case, document 01's number of a refusal, and the values of the case.
+#![tactic(auto)]
+
 ghost use Rattle.std.specs.Prelude.{◌≡◌};
 ghost use Rattle.rules.specs.Runs.{one_if};
 ghost use Rattle.rules.specs.Encodings.{refusal_number, told_verdict, effect_number, flat, tell, tell_refused, told, told_run, told_wait, basis_number, told_bound};

@@ -1,4 +1,6 @@
 // Triggers, arbitration and the return.
+#![tactic(auto)]
+
 mod acknowledgement;
 mod nesting;
 mod triggers;

@@ -1,4 +1,6 @@
 // Demand 3's bound on an image and a list that are accepted, for a source that is there: the premises on the start, then the steps, followed on a copy of the image, without a memory.
+#![tactic(auto)]
+
 mod copies;
 mod targets;
 
@@ -128,7 +130,7 @@ fn followed(
 }
 
 // Whether some premises hold, or the first of them that fails.
-#[derive(Drop)]
+#[derive(Clone, Copy)]
 pub enum Premises {
     Hold,
     Fail(Bounded),

@@ -1,5 +1,7 @@
 // The check of a channel list, refusal 2. It also lays the list out in two arrays of numbers, once a call, so that no step looks a record up. The list
 // itself goes along with them below: the contracts are over it.
+#![tactic(auto)]
+
 ghost use Rattle.std.specs.Prelude.{◌≡◌, true, ◌≤◌, ◌<◌, set};
 ghost use Rattle.rules.specs.Image.{page_byte};
 ghost use Rattle.rules.specs.Channels.{most_records, record_ok, list_ok, list_of};

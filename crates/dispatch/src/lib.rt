@@ -1,4 +1,6 @@
 // One step on an image and a list that are accepted, with any memory: a word decoded, the step done, and what is asked of a step and of its answer by those who do many.
+#![tactic(auto)]
+
 mod words;
 
 ghost use Rattle.std.specs.Prelude.{◌≡◌};

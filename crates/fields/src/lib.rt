@@ -1,4 +1,6 @@
 // The two writes that change a part of a byte of the image.
+#![tactic(auto)]
+
 ghost use Rattle.std.specs.Prelude.{◌≡◌, ◌<◌, length};
 ghost use Rattle.rules.specs.Image.{image_length, bit_of, put, put_CPL};
 

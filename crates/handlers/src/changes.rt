@@ -142,7 +142,7 @@ pub(crate) fn first_changed(
 }
 
 // Two sources that are compared: ours, and source k.
-#[derive(Drop)]
+#[derive(Clone, Copy)]
 struct Compared {
     ours: usize,
     k: usize,

@@ -1,5 +1,7 @@
 // The bound over lists with reads and writes, on an image and a list that are accepted, for a source that is there: the premises on the start, as demand 3
 // has them, then the steps until ours is acknowledged, followed on a copy of the image, without a memory.
+#![tactic(auto)]
+
 mod changes;
 
 ghost use Rattle.std.specs.Prelude.{◌≡◌, true, ◌<◌, length};
@@ -21,7 +23,7 @@ use runs::perform_alone;
 
 // What a step that was followed answered, whether the premises hold of it, and how many unmasked sources outranking ours it triggered or made pending by a
 // write.
-#[derive(Drop)]
+#[derive(Clone, Copy)]
 pub struct Seen {
     pub answer: Answer,
     pub broken: Premises,
@@ -29,7 +31,7 @@ pub struct Seen {
 }
 
 // A step that is followed, as its word and its index in the list; and our source.
-#[derive(Drop)]
+#[derive(Clone, Copy)]
 struct StepAt {
     ours: usize,
     word: u64,

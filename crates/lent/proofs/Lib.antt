@@ -1,12 +1,1 @@
 pub mod CopyLaws
-pub mod Params
-pub mod Entries
-pub mod Bare
-pub mod One
-pub mod Two
-pub mod BareMemory
-pub mod OneMemory
-pub mod TwoMemory
-pub mod Shared
-pub mod SharedTwo
-pub mod While

@@ -1,4 +1,6 @@
 // The lent channel list, copied into a list by value: from a slice of records, or from bytes as C lends it.
+#![tactic(auto)]
+
 ghost use Rattle.std.specs.Prelude.{◌≡◌, ◌+◌, ◌*◌, ◌≤◌, ◌<◌, min, length, drop};
 ghost use Rattle.rules.specs.Channels.{most_records};
 ghost use Rattle.rules.specs.Encodings.{record_length, record_in, list_in};

@@ -1,5 +1,7 @@
 // The model with the channel list by value: the refusals of what is lent, the six steps, a step given as a word, runs, the wait report and the two bounds.
 // Any image, any list, any memory and any step gets an answer.
+#![tactic(auto)]
+
 ghost use Rattle.std.specs.Prelude.{◌≡◌, leb, length};
 ghost use Rattle.rules.specs.Channels.{list_of};
 ghost use Rattle.rules.specs.Image.{most_memory};

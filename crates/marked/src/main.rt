@@ -1,4 +1,6 @@
 // Runs C01 to C13 of document 01 and prints which pass, then how many. An example passes if every answer and every whole image is the paper's.
+#![tactic(auto)]
+
 mod compare;
 mod images;
 

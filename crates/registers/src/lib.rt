@@ -1,4 +1,6 @@
 // The registers: where a register number goes, read, write, reset, and the view of a page.
+#![tactic(auto)]
+
 mod table;
 
 ghost use Rattle.std.specs.Prelude.{◌≡◌, cond, ◌≤◌, eqb, length};

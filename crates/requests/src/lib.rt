@@ -1,4 +1,6 @@
 // Rules 3 to 5 of arbitration: who requests what, what is eligible, and the winner.
+#![tactic(auto)]
+
 ghost use Rattle.std.specs.Prelude.{◌≡◌, cond, ◌+◌, ◌%◌, ◌<◌, ◌≤◌, eqb, length};
 ghost use Rattle.bits.specs.Bits.{bit};
 ghost use Rattle.rules.specs.Image.{image_length};
@@ -24,7 +26,7 @@ pub fn external_level(eiplr: u8, k: u8) -> u8
 }
 
 // What a level must be below to be eligible: a DMA request's, and an interrupt's.
-#[derive(Drop)]
+#[derive(Clone, Copy)]
 struct Limits {
     dma: u8,
     interrupt: u8,
@@ -110,7 +112,7 @@ fn rank_at(image: &[u8], places: &[u16; PLACES], limits: Limits, position: usize
 }
 
 // A lower bound for the winner among some positions: none of them has a smaller rank, and none before `position` has this rank.
-#[derive(Drop)]
+#[derive(Clone, Copy)]
 struct Front {
     rank: u8,
     position: usize,

@@ -1,4 +1,6 @@
 // Lists of steps on an image, a memory and a list that are accepted: runs, single steps and wait reports.
+#![tactic(auto)]
+
 ghost use Rattle.std.specs.Prelude.{◌≡◌};
 ghost use Rattle.rules.specs.Channels.{list_of};
 ghost use Rattle.rules.specs.Outcomes.{state, alone, outcome};
@@ -13,7 +15,7 @@ use dispatch::{acknowledged, act, arbitrations, decode, verdict_of};
 use rules::{Answer, Channels, Ran, Verdict, Waited};
 
 // Where a list of steps stopped: how many were done, and the last answer, which is a refusal where that stopped it.
-#[derive(Drop)]
+#[derive(Clone, Copy)]
 struct Stopped {
     steps: usize,
     last: Answer,

@@ -1,4 +1,6 @@
 // What a source has, on an image and a list within the rules: whether it is pending and unmasked, and its level; which sources outrank it, and how many of these wait.
+#![tactic(auto)]
+
 ghost use Rattle.std.specs.Prelude.{◌≡◌, true, ◌<◌, length};
 ghost use Rattle.rules.specs.Image.{image_length, at};
 ghost use Rattle.rules.specs.Channels.{record_at, idcr_byte, list_ok, list_of};

@@ -1,5 +1,7 @@
 // The public library. Each function takes the image, the channel list and the memory as they are lent, whatever they are, and answers for them: a bad one is refused with
 // document 01's number and every byte stays. The same for C is in `exports`.
+#![tactic(auto)]
+
 mod exports;
 
 ghost use Rattle.rules.specs.Outcomes.{state};

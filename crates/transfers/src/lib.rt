@@ -1,4 +1,6 @@
 // What a DMA request that has won gets: a byte moves between the data register and the register file, or the memory.
+#![tactic(auto)]
+
 ghost use Rattle.std.specs.Prelude.{◌≡◌, ◌+◌, ◌*◌, ◌/◌, ◌%◌, ◌<◌, ◌≤◌, length, ◌==◌, slice_index, slice_set};
 ghost use Rattle.rules.specs.Image.{image_length, at};
 ghost use Rattle.rules.specs.Channels.{list_of, record_bytes};
@@ -72,7 +74,7 @@ fn finish(image: &mut [u8], all: Channels, places: &[u16; PLACES], source: u8, c
 // ---- With the register file.
 
 // The pair Rn, R(n+1), as it was read first: an address and a counter.
-#[derive(Drop)]
+#[derive(Clone, Copy)]
 struct Pair {
     n: usize,
     address: u8,
@@ -140,7 +142,7 @@ fn register_transfer(image: &mut [u8], all: Channels, places: &[u16; PLACES], so
 // ---- With the memory.
 
 // The pairs of the address (p) and of the counter (n), and what they held.
-#[derive(Drop)]
+#[derive(Clone, Copy)]
 struct Pairs {
     p: usize,
     n: usize,

@@ -1,0 +1,6 @@
+-- By the number of the refusal.
+use borrow.Author.Rules.{rules}
+use Rattle.answers.proofs.refused_at.Goals as goal
+
+pub returns : goal.returns
+returns c = simp c.refusal_number.ensures

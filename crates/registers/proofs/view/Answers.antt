@@ -1,0 +1,21 @@
+-- An accepted view has an image of the right length and a page of 0 to 63 (`view_only`), so the page's part lies in the image.
+use mathlib.Core.Path.{sym, ◌∙◌}
+use native.Mathlib.Omega.{arith}
+use native.Mathlib.Nat.{add-zero, add-sub_cancel_left}
+use borrow.Author.Rules.{rules}
+use Rattle.rules.specs.Image.{page_byte}
+use Rattle.rules.specs.Registers.{view_of}
+use Rattle.rules.proofs.ViewLaws.{view_only, view_empty}
+use Rattle.registers.proofs.view.Goals as goal
+
+pub slice_bounds-result-end : goal.slice_bounds-result-end
+slice_bounds-result-end c =
+    let fits = view_only _ _ (sym c.view_verdict.ensures ∙ c.enum_told-1.given.1) in
+    omega (arith, fits.0, fits.1)
+
+pub returns-in-Accepted : goal.returns-in-Accepted
+unfolding view_of page_byte
+returns-in-Accepted c = simp (sym c.view_verdict.ensures, c.enum_told-1.given.1, add-zero, add-sub_cancel_left)
+
+pub returns-in-Refused : goal.returns-in-Refused
+returns-in-Refused c = sym (view_empty _ _ _ (sym c.view_verdict.ensures ∙ c.enum_told-in-Refused-1.given.1))

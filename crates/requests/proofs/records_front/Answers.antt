@@ -1,0 +1,43 @@
+use mathlib.Core.Path.{◌≡◌, ◌∙◌}
+use Prim.Native.Nat.{◌+◌, ◌-◌, ◌≤◌}
+use native.Mathlib.Omega.{arith}
+use Rattle.requests.specs.Ranks.{rank_at, IsFront}
+use Rattle.requests.proofs.RankLaws.{rank_of_record}
+use Rattle.requests.proofs.FrontLaws.{front_keep, front_take}
+use borrow.Author.Rules.{rules}
+use Rattle.requests.proofs.records_front.Goals as goal
+
+-- the rank of record k
+asks : (c : goal.After-record_rank-r)
+    → c.record_rank-r.result ≡ rank_at c.args.limits c.args.image.now
+    c.args.places.now (8 + c.loop-k.k)
+asks c =
+    c.record_rank-r.ensures ∙ rank_of_record c.args.limits c.args.image.now c.args.places.now c.loop-k.k
+
+pub loop-k-init : goal.loop-k-init
+loop-k-init c = (omega arith, c.requires.3)
+
+pub overflow_cast-places : goal.overflow_cast-places
+overflow_cast-places c =
+    omega (arith, c.requires.1 c.loop-k.k (omega (arith, c.loop-k-test.true, c.requires.2)))
+
+pub bounds-image-places : goal.bounds-image-places
+bounds-image-places c =
+    omega (arith, c.requires.0, c.requires.1 c.loop-k.k (omega (arith, c.loop-k-test.true, c.requires.2)))
+
+pub loop-k-preserved-then-r-eq-NO_RANK : goal.loop-k-preserved-then-r-eq-NO_RANK
+loop-k-preserved-then-r-eq-NO_RANK c =
+    (omega arith, front_keep _ _ _ _ c.loop-k.invariant.1 _ (omega arith) (omega (arith, asks c, c.if-r-eq-NO_RANK.true, c.loop-k.invariant.1.top)))
+
+pub loop-k-preserved-then-rank-r : goal.loop-k-preserved-then-rank-r
+loop-k-preserved-then-rank-r c =
+    (omega arith, front_keep _ _ _ _ c.loop-k.invariant.1 _ (omega arith) (omega (arith, asks c, c.if-rank-r.true)))
+
+pub loop-k-preserved : goal.loop-k-preserved
+loop-k-preserved c =
+    (omega arith, front_take _ _ _ _ c.loop-k.invariant.1 _ _ _ (omega arith) (omega arith) (asks c) (omega (arith, c.if-rank-r.false)))
+
+pub returns : goal.returns
+returns c =
+    let e : c.loop-k.k ≡ c.args.count = omega arith in
+    rw e at c.loop-k.invariant.1

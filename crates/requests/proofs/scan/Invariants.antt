@@ -1,0 +1,34 @@
+-- Three loops with one invariant: nobody so far. A hit is the first of its kind and level, and so the first of all.
+use mathlib.Core.Path.{◌≡◌, refl, sym, ◌∙◌}
+use Prim.Native.Nat.{◌+◌, ◌-◌, ◌*◌, ◌≤◌, ◌<◌}
+use native.Mathlib.Omega.{arith}
+use Rattle.rules.specs.declared.Winner.{Winner}
+use Rattle.rules.specs.declared.Winner.TheVariants as winner
+use Rattle.rules.specs.Requests.{first}
+use Rattle.rules.proofs.WinnerLaws.{won_somebody}
+use Rattle.requests.specs.Ranks.{rank_at, found, found_of_kind, found_at_level, scanned}
+use Rattle.requests.proofs.FirstLaws.{first_more, first_hit, first_end}
+use Rattle.requests.proofs.FrontLaws.{found_none, found_here, found_below, level-below, found-start}
+use borrow.Author.Rules.{rules}
+use Rattle.requests.proofs.scan.Given as goal
+
+abbrev pub invariant-loop-position : goal.invariant-loop-position
+invariant-loop-position l =
+    (l.winner ≡ nobody) × (l.position ≤ l.positions) × (first l.position (found (rank_at l.limits l.image l.places) l.level l.kind) ≡ nobody)
+
+abbrev pub decreases-loop-position : goal.decreases-loop-position
+decreases-loop-position l = l.positions - l.position
+
+abbrev pub invariant-loop-kind : goal.invariant-loop-kind
+invariant-loop-kind l =
+    (l.winner ≡ nobody) × (l.kind ≤ 2) × (first l.kind (found_of_kind (rank_at l.limits l.image l.places) l.positions l.level) ≡ nobody)
+
+abbrev pub decreases-loop-kind : goal.decreases-loop-kind
+decreases-loop-kind l = 2 - l.kind
+
+abbrev pub invariant-scan : goal.invariant-scan
+invariant-scan l =
+    (l.winner ≡ nobody) × (l.level ≤ 8) × (first l.level (found_at_level (rank_at l.limits l.image l.places) l.positions) ≡ nobody)
+
+abbrev pub decreases-scan : goal.decreases-scan
+decreases-scan l = 8 - l.level
