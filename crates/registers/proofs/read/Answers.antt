@@ -8,12 +8,12 @@ use Rattle.registers.proofs.read.Goals as goal
 
 pub bounds-image-i : goal.bounds-image-i
 bounds-image-i c =
-    place_in_image _ _ _ _ _ _ c.requires.0 (c.shared_slice_known-1.given PPR) c.place_of.ensures c.i-1.given.1
+    place_in_image _ _ _ _ _ _ c.requires.0 (c.type_inv.image PPR) c.place_of.ensures c.in-At.is
 
 pub returns-in-At : goal.returns-in-At
 unfolding read_of
-returns-in-At c = simp (sym c.place_of.ensures, c.i-1.given.1)
+returns-in-At c = simp (sym c.place_of.ensures, c.in-At.is)
 
 pub returns-in-Unmodelled : goal.returns-in-Unmodelled
 unfolding read_of
-returns-in-Unmodelled c = simp (sym c.place_of.ensures, c.enum_told-1.given.1)
+returns-in-Unmodelled c = simp (sym c.place_of.ensures, c.in-Unmodelled.is)

@@ -23,7 +23,8 @@ bounds-image-i c =
     omega (arith, c.row_place-i.ensures, row_below _ c.loop-k-test.true, c.loop-k.invariant.1)
 
 pub bounds-image-i-in-loop-k : goal.bounds-image-i-in-loop-k
-bounds-image-i-in-loop-k c = bounds-image-i c
+bounds-image-i-in-loop-k c =
+    omega (arith, c.row_place-i.ensures, row_below _ c.loop-k-test.true, c.loop-k.invariant.1)
 
 pub loop-k-preserved : goal.loop-k-preserved
 unfolding reset_rows reset_row reset_byte

@@ -10,12 +10,12 @@ use Rattle.registers.proofs.view.Goals as goal
 
 pub slice_bounds-result-end : goal.slice_bounds-result-end
 slice_bounds-result-end c =
-    let fits = view_only _ _ (sym c.view_verdict.ensures ∙ c.enum_told-1.given.1) in
+    let fits = view_only _ _ (sym c.view_verdict.ensures ∙ c.in-Accepted.is) in
     omega (arith, fits.0, fits.1)
 
 pub returns-in-Accepted : goal.returns-in-Accepted
 unfolding view_of page_byte
-returns-in-Accepted c = simp (sym c.view_verdict.ensures, c.enum_told-1.given.1, add-zero, add-sub_cancel_left)
+returns-in-Accepted c = simp (sym c.view_verdict.ensures, c.in-Accepted.is, add-zero, add-sub_cancel_left)
 
 pub returns-in-Refused : goal.returns-in-Refused
-returns-in-Refused c = sym (view_empty _ _ _ (sym c.view_verdict.ensures ∙ c.enum_told-in-Refused-1.given.1))
+returns-in-Refused c = sym (view_empty _ _ _ (sym c.view_verdict.ensures ∙ c.in-Refused.is))

@@ -9,8 +9,8 @@ use Rattle.requests.proofs.chosen.Goals as goal
 
 pub returns-then-front-eq-NO_RANK : goal.returns-then-front-eq-NO_RANK
 returns-then-front-eq-NO_RANK c =
-    sym (scanned_nobody _ _ _ _ (rw c.Limits-of.ensures at c.front_of-front.ensures) c.if-front-eq-NO_RANK.true)
+    sym (scanned_nobody _ _ _ _ (rw c.limits_of-limits.ensures at c.front_of-front.ensures) c.if-front-eq-NO_RANK.true)
 
 pub returns : goal.returns
 returns c =
-    c.scan.ensures ∙ ap (λ (limits : Limits). scanned (rank_at limits c.args.image.now c.args.places.now) (8 + c.args.count)) c.Limits-of.ensures
+    c.scan.ensures ∙ ap (λ (limits : Limits). scanned (rank_at limits c.args.image.now c.args.places.now) (8 + c.args.count)) c.limits_of-limits.ensures

@@ -7,6 +7,7 @@ use Rattle.requests.proofs.RankLaws.{external_ranked}
 use Rattle.requests.proofs.FrontLaws.{front_limit, Left, left-all, left-none, left_keep, left-take, left_less}
 use borrow.Author.Rules.{rules}
 use Rattle.requests.proofs.externals_front.Goals as goal
+use Rattle.requests.proofs.externals_front.Goals.{After-put_bit-left, After-interrupt_rank-r}
 
 pub returns-then-limit-eq0 : goal.returns-then-limit-eq0
 returns-then-limit-eq0 c = front_limit _ _ _ c.if-limit-eq0.true
@@ -26,11 +27,11 @@ interrupt_rank-r-requires c =
     omega (arith, c.external_level.ensures, external-level c.args.eiplr k.result k.ensures.byte)
 
 -- one that was left is fewer
-fewer : (c : goal.After-put_bit-left) → c.put_bit-left.result < c.loop-left.left
+fewer : (c : After-put_bit-left) → c.put_bit-left.result < c.loop-left.left
 fewer c = rw c.put_bit-left.ensures (left_less _ _ c.lowest-k.ensures)
 
 -- the rank of the channel
-asks : (c : goal.After-interrupt_rank-r)
+asks : (c : After-interrupt_rank-r)
     → c.interrupt_rank-r.result ≡ external_rank c.args.limit c.args.eiplr
     c.args.requesting c.lowest-k.result
 asks c =
@@ -41,7 +42,7 @@ asks c =
 pub loop-left-preserved-then-rank-r : goal.loop-left-preserved-then-rank-r
 loop-left-preserved-then-rank-r c =
     let i = c.loop-left.invariant in
-    rw c.put_bit-left.ensures (left_keep _ _ _ _ _ _ _ i c.lowest-k.ensures (omega (arith, asks c, c.if-rank-r.true)))
+    rw c.put_bit-left.ensures (left_keep _ _ _ _ _ _ _ i c.lowest-k.ensures (omega (arith, asks c.before, c.if-rank-r.true)))
 
 pub overflow_cast-position : goal.overflow_cast-position
 overflow_cast-position c = omega (arith, c.lowest-k.ensures.byte)
@@ -49,7 +50,7 @@ overflow_cast-position c = omega (arith, c.lowest-k.ensures.byte)
 pub loop-left-preserved : goal.loop-left-preserved
 loop-left-preserved c =
     let i = c.loop-left.invariant in
-    rw c.put_bit-left.ensures (left-take _ _ _ _ _ _ _ i c.lowest-k.ensures _ (asks c) (omega (arith, c.if-rank-r.false)))
+    rw c.put_bit-left.ensures (left-take _ _ _ _ _ _ _ i c.lowest-k.ensures _ (asks c.before) (omega (arith, c.if-rank-r.false)))
 
 pub returns : goal.returns
 returns c =
@@ -57,7 +58,7 @@ returns c =
     left-none _ _ _ _ _ (rw e at c.loop-left.invariant)
 
 pub loop-left-smaller-then-rank-r : goal.loop-left-smaller-then-rank-r
-loop-left-smaller-then-rank-r c = fewer c
+loop-left-smaller-then-rank-r c = fewer c.before.before.before
 
 pub loop-left-smaller : goal.loop-left-smaller
-loop-left-smaller c = fewer c
+loop-left-smaller c = fewer c.before.before.before

@@ -7,13 +7,6 @@ use Rattle.requests.proofs.FrontLaws.{front_keep, front_take}
 use borrow.Author.Rules.{rules}
 use Rattle.requests.proofs.records_front.Goals as goal
 
--- the rank of record k
-asks : (c : goal.After-record_rank-r)
-    → c.record_rank-r.result ≡ rank_at c.args.limits c.args.image.now
-    c.args.places.now (8 + c.loop-k.k)
-asks c =
-    c.record_rank-r.ensures ∙ rank_of_record c.args.limits c.args.image.now c.args.places.now c.loop-k.k
-
 pub loop-k-init : goal.loop-k-init
 loop-k-init c = (omega arith, c.requires.3)
 
@@ -27,15 +20,18 @@ bounds-image-places c =
 
 pub loop-k-preserved-then-r-eq-NO_RANK : goal.loop-k-preserved-then-r-eq-NO_RANK
 loop-k-preserved-then-r-eq-NO_RANK c =
-    (omega arith, front_keep _ _ _ _ c.loop-k.invariant.1 _ (omega arith) (omega (arith, asks c, c.if-r-eq-NO_RANK.true, c.loop-k.invariant.1.top)))
+    let asks = c.record_rank-r.ensures ∙ rank_of_record c.args.limits c.args.image.now c.args.places.now c.loop-k.k in
+    (omega arith, front_keep _ _ _ _ c.loop-k.invariant.1 _ (omega arith) (omega (arith, asks, c.if-r-eq-NO_RANK.true, c.loop-k.invariant.1.top)))
 
 pub loop-k-preserved-then-rank-r : goal.loop-k-preserved-then-rank-r
 loop-k-preserved-then-rank-r c =
-    (omega arith, front_keep _ _ _ _ c.loop-k.invariant.1 _ (omega arith) (omega (arith, asks c, c.if-rank-r.true)))
+    let asks = c.record_rank-r.ensures ∙ rank_of_record c.args.limits c.args.image.now c.args.places.now c.loop-k.k in
+    (omega arith, front_keep _ _ _ _ c.loop-k.invariant.1 _ (omega arith) (omega (arith, asks, c.if-rank-r.true)))
 
 pub loop-k-preserved : goal.loop-k-preserved
 loop-k-preserved c =
-    (omega arith, front_take _ _ _ _ c.loop-k.invariant.1 _ _ _ (omega arith) (omega arith) (asks c) (omega (arith, c.if-rank-r.false)))
+    let asks = c.record_rank-r.ensures ∙ rank_of_record c.args.limits c.args.image.now c.args.places.now c.loop-k.k in
+    (omega arith, front_take _ _ _ _ c.loop-k.invariant.1 _ _ _ (omega arith) (omega arith) asks (omega (arith, c.if-rank-r.false)))
 
 pub returns : goal.returns
 returns c =

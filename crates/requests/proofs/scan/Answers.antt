@@ -11,9 +11,6 @@ use Rattle.requests.proofs.FrontLaws.{found_none, found_here, found_below, level
 use borrow.Author.Rules.{rules}
 use Rattle.requests.proofs.scan.Goals as goal
 
-abbrev nobody : Winner
-nobody = winner.Nobody
-
 pub scan-init : goal.scan-init
 scan-init c =
     let a = c.requires.3 in
