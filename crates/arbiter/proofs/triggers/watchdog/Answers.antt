@@ -1,4 +1,5 @@
 -- `raise` does to each of the two bits what the definition says; the first leaves the second as it was.
+-- TLIP is no bit of EIPR
 use mathlib.Core.Path.{◌≡◌, refl}
 use mathlib.Core.Logic.{inl}
 use mathlib.Core.Bool.{Bool, true, cond, not}
@@ -10,33 +11,24 @@ use Rattle.rules.specs.Triggers.{trigger_verdict, selects, selects_top, top_effe
 use Rattle.rules.proofs.Bools.{cond_elim}
 use Rattle.rules.proofs.ImageLaws.{has-put_other}
 use Rattle.arbiter.proofs.RaisingLaws.{external_effect, external-raised}
-use Rattle.arbiter.proofs.triggers.watchdog.Statement.{statement}
-use Rattle.arbiter.proofs.triggers.watchdog.Tie as tie
+use Rattle.arbiter.proofs.triggers.watchdog.Goals as goal
 
--- TLIP is no bit of EIPR
 top-stays : (m : Image) (b : Bool) → has (cond b (put m (bit_of EIPR 0) true) m) TLIP ≡ has m TLIP
 top-stays m b =
     cond_elim (λ i. has i TLIP ≡ has m TLIP) b (λ t. has-put_other m (bit_of EIPR 0) true TLIP (lit< tt) (lit< tt) (inl (λ e. omega arith))) (λ f. refl)
 
-returns : tie.Need-returns
+pub returns : goal.returns
 unfolding trigger_of fired trigger_verdict selects selects_top top_effect raise_top
 returns c cs =
-    let q = c.before.before in
-    let r = q.before.before.before.before.before in
-    let m = r.before.before.before.before.before.args.image.now in
+    let m = c.args.image.now in
     simp (
       external_effect m cs 0 (lit< tt),
       external-raised m cs 0 (lit< tt),
-      q.raise2.ensures.0,
-      q.raise2.ensures.1,
-      r.raise.ensures.0,
-      r.raise.ensures.1,
-      q.before.has-bit2.ensures,
-      r.before.has-bit.ensures,
+      c.raise-top.ensures.0,
+      c.raise-top.ensures.1,
+      c.raise-maskable.ensures.0,
+      c.raise-maskable.ensures.1,
+      c.has_bit-2.ensures,
+      c.has_bit.ensures,
       top-stays m (not (has m IAOS)),
     )
-
-pub watchdog-spec : {M : Type 1} → statement M
-watchdog-spec {M} =
-    let answered = tie.spec {M = M} (λ c. search rules) (λ c κs. search rules) (λ c κs. search rules) (λ c κs. search rules) (λ c κs. search rules) in
-    tie.close (answered (λ c. search rules) returns)
