@@ -1,0 +1,31 @@
+-- The invariant: what is answered of all the words is what is answered of those that are left, after the steps done on the copy, with the triggers counted so far
+-- and the first arbitration with interrupts disabled, if there was one.
+use mathlib.Core.Path.{◌≡◌, sym, ap, ◌∙◌}
+use Prim.Native.Nat.{◌-◌, ◌≤◌}
+use native.Mathlib.Omega.{arith}
+use lib.ListN.{length, drop}
+use borrow.Author.Rules.{rules}
+use borrow.Author.Tests.{lt-ltb, le-ltb}
+use Rattle.rules.specs.Image.{image_length}
+use Rattle.rules.specs.Channels.{list_of}
+use Rattle.rules.specs.Outcomes.{alone}
+use Rattle.rules.specs.Runs.{history, one_if}
+use Rattle.rules.specs.Demand3.{rival, H}
+use Rattle.rules.specs.Encodings.{steps_of}
+use Rattle.rules.proofs.Counting.{one_le}
+use Rattle.bounds.specs.Followed.{rival_triggered, followed_from}
+use Rattle.dispatch.proofs.NextSteps.{next_alone, no_word}
+use Rattle.runs.proofs.RunSteps.{as_decoded}
+use Rattle.bounds.proofs.FollowedSteps.{triggers-told, followed-start, followed_end, followed-other, followed_on}
+use Rattle.bounds.proofs.followed.Given as goal
+
+abbrev pub invariant-loop-done : goal.invariant-loop-done
+invariant-loop-done l =
+    let among = rival l.image (list_of l.all) l.ours in
+    let h = H l.image (list_of l.all) l.ours in
+    (l.done ≤ length l.words) × (l.triggers ≤ l.done) × (length l.copy ≡ image_length)
+    × (followed_from among h l.end 0 l.end 0 (history (alone l.image) (list_of l.all) (steps_of l.words))
+    ≡ followed_from among h l.end l.done l.disabled l.triggers (history (alone l.copy) (list_of l.all) (steps_of (drop l.done l.words))))
+
+abbrev pub decreases-loop-done : goal.decreases-loop-done
+decreases-loop-done l = length l.words - l.done

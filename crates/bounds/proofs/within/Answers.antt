@@ -1,0 +1,22 @@
+-- H is no more than there are sources, so the sum is a number of the machine's.
+-- no more than there are sources
+use Prim.Native.Nat.{◌≤◌}
+use native.Mathlib.Omega.{arith}
+use Rattle.rules.specs.Channels.{list_of}
+use Rattle.rules.specs.Demand3.{rival}
+use Rattle.sources.proofs.SourceReads.{few-pending}
+use borrow.Author.Rules.{rules}
+use Rattle.bounds.proofs.within.Goals as goal
+
+pub overflow_add-result : goal.overflow_add-result
+overflow_add-result c =
+    let few : c.pending_rivals-outranking.result ≤ 20 = omega (arith, c.pending_rivals-outranking.ensures, few-pending _ c.requires.1 c.args.image.now (rival c.args.image.now (list_of c.args.all) c.args.ours)) in
+    omega (arith, few)
+
+pub overflow_add-result-2 : goal.overflow_add-result-2
+overflow_add-result-2 c =
+    let few : c.pending_rivals-outranking.result ≤ 20 = omega (arith, c.pending_rivals-outranking.ensures, few-pending _ c.requires.1 c.args.image.now (rival c.args.image.now (list_of c.args.all) c.args.ours)) in
+    omega (arith, few)
+
+pub returns : goal.returns
+returns c = rw c.pending_rivals-outranking.ensures

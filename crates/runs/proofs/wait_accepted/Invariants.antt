@@ -1,0 +1,26 @@
+-- The invariant: the wait report of all the words is that of what is left, after the steps done and the arbitrations made, which are no more than
+-- the steps.
+use mathlib.Core.Path.{◌≡◌, refl, sym, ◌∙◌}
+use Prim.Native.Nat.{◌-◌, ◌≤◌}
+use native.Mathlib.Omega.{arith}
+use lib.ListN.{length, drop}
+use borrow.Author.Rules.{rules}
+use Rattle.rules.specs.declared.Answer.TheVariants as answer
+use Rattle.rules.specs.Channels.{list_of}
+use Rattle.rules.specs.Outcomes.{state}
+use Rattle.rules.specs.Runs.{is_arbitration, wait_events, wait_of}
+use Rattle.rules.specs.Encodings.{steps_of, told_wait}
+use Rattle.rules.proofs.Counting.{one_le}
+use Rattle.dispatch.proofs.NextSteps.{next_word, no_word}
+use Rattle.runs.proofs.RunSteps.{promised, wait_from, wait-starts, wait_on, wait-acknowledges, wait_stop, wait_end}
+use Rattle.runs.proofs.wait_accepted.Given as goal
+
+abbrev pub invariant-loop-done : goal.invariant-loop-done
+invariant-loop-done l =
+    let s = state l.image l.memory in
+    (l.done ≤ length l.words) × (l.made ≤ l.done) × (length l.image ≡ length l.initial.image) × (length l.memory ≡ length l.initial.memory)
+    × (wait_of (state l.initial.image l.initial.memory) (list_of l.all) l.source (steps_of l.words)
+    ≡ wait_from l.source s l.done l.made answer.NoStep (wait_events s (list_of l.all) l.source (steps_of (drop l.done l.words))))
+
+abbrev pub decreases-loop-done : goal.decreases-loop-done
+decreases-loop-done l = length l.words - l.done
