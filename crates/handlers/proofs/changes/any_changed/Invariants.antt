@@ -1,0 +1,17 @@
+-- The invariant: no source below k has changed.
+use mathlib.Core.Path.{refl, sym, ◌∙◌}
+use Prim.Native.Nat.{◌-◌}
+use native.Mathlib.Omega.{arith}
+use borrow.Author.Rules.{rules}
+use Rattle.rules.specs.Channels.{list_of}
+use Rattle.rules.specs.Sources.{sources}
+use Rattle.rules.specs.Bounds.{any_below}
+use Rattle.sources.proofs.SourceLoops.{NoneYet, any_there, any_found, any_next, any_over}
+use Rattle.handlers.specs.Handled.{source_changes}
+use Rattle.handlers.proofs.changes.any_changed.Given as goal
+
+abbrev pub invariant-loop-k : goal.invariant-loop-k
+invariant-loop-k l = NoneYet (source_changes (list_of l.all) l.before l.after l.basis) (sources (list_of l.all)) l.end l.k
+
+abbrev pub decreases-loop-k : goal.decreases-loop-k
+decreases-loop-k l = l.end - l.k

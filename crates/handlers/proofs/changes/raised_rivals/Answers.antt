@@ -1,0 +1,27 @@
+use mathlib.Core.Bool.{not, ◌&&◌}
+use Prim.Native.Nat.{◌-◌}
+use native.Mathlib.Omega.{arith}
+use borrow.Author.Rules.{rules}
+use Rattle.rules.specs.Channels.{list_of}
+use Rattle.rules.specs.Sources.{sources, pending}
+use Rattle.rules.specs.Demand3.{rival}
+use Rattle.rules.specs.Handlers.{raised}
+use Rattle.sources.proofs.SourceLoops.{SoMany, none-counted, counted-there, counted_next, counted-over}
+use Rattle.handlers.proofs.changes.raised_rivals.Goals as goal
+
+pub loop-k-init : goal.loop-k-init
+loop-k-init c = none-counted _ _ _ c.source_count-end.ensures
+
+pub raised_rival-n-requires : goal.raised_rival-n-requires
+raised_rival-n-requires c =
+    (c.requires.0, c.requires.1, c.requires.2, c.requires.3, c.requires.4, c.requires.5, counted-there _ _ _ _ _ c.loop-k.invariant c.loop-k-test.true)
+
+pub loop-k-preserved : goal.loop-k-preserved
+loop-k-preserved c = counted_next _ _ _ _ _ c.loop-k.invariant _ c.raised_rival-n.ensures c.loop-k-test.true
+
+pub overflow_add-n : goal.overflow_add-n
+overflow_add-n c = omega (arith, (loop-k-preserved c).few)
+
+pub returns : goal.returns
+unfolding raised
+returns c = counted-over _ _ _ _ _ c.loop-k.invariant c.loop-k-test.false

@@ -1,0 +1,29 @@
+-- The invariant: what is answered of all the words is what is answered of those that are left, after the steps done on the copy, with what these triggered and
+-- raised, twelve a step at most.
+use mathlib.Core.Path.{◌≡◌, refl, sym, ◌∙◌}
+use Prim.Native.Nat.{◌*◌, ◌-◌, ◌≤◌}
+use native.Mathlib.Omega.{arith}
+use lib.ListN.{length, drop}
+use borrow.Author.Rules.{rules}
+use Rattle.rules.specs.Image.{image_length}
+use Rattle.rules.specs.Channels.{list_of}
+use Rattle.rules.specs.Outcomes.{alone}
+use Rattle.rules.specs.Runs.{history}
+use Rattle.rules.specs.Demand3.{rival, H}
+use Rattle.rules.specs.Handlers.{up_to}
+use Rattle.rules.specs.Encodings.{steps_of}
+use Rattle.dispatch.proofs.NextSteps.{next_alone, no_word}
+use Rattle.handlers.specs.Handled.{followed_from}
+use Rattle.handlers.proofs.FollowLaws.{follows_few, broken_some, broken-none, followed-start, followed_end, followed-broken, followed-last, followed_on}
+use Rattle.handlers.proofs.followed.Given as goal
+
+abbrev pub invariant-loop-done : goal.invariant-loop-done
+invariant-loop-done l =
+    let among = rival l.image (list_of l.all) l.source in
+    let h = H l.image (list_of l.all) l.source in
+    (l.done ≤ length l.words) × (l.triggers ≤ 12 * l.done) × (length l.copy ≡ image_length)
+    × (followed_from (list_of l.all) l.source among h 0 0 (up_to l.source (history (alone l.image) (list_of l.all) (steps_of l.words)))
+    ≡ followed_from (list_of l.all) l.source among h l.done l.triggers (up_to l.source (history (alone l.copy) (list_of l.all) (steps_of (drop l.done l.words)))))
+
+abbrev pub decreases-loop-done : goal.decreases-loop-done
+decreases-loop-done l = length l.words - l.done
