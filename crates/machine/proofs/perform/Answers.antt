@@ -1,0 +1,16 @@
+-- Where what is lent is accepted the step that the word stands for is done, and else it is refused; the definition goes by the same verdict.
+use mathlib.Core.Path.{refl, sym, ◌∙◌}
+use borrow.Author.Rules.{rules}
+use Rattle.machine.proofs.LentLaws.{lent_laid, does-by}
+use Rattle.machine.proofs.perform.Goals as goal
+
+pub perform-requires : goal.perform-requires
+perform-requires c =
+    lent_laid _ _ _ _ c.in-Accepted.is c.lent_verdict.ensures
+
+pub returns-in-Accepted : goal.returns-in-Accepted
+returns-in-Accepted c =
+    does-by _ _ _ _ _ _ (sym c.lent_verdict.ensures.0 ∙ c.in-Accepted.is) c.perform.ensures
+
+pub returns-in-Refused : goal.returns-in-Refused
+returns-in-Refused c = does-by _ _ _ _ _ _ (sym c.lent_verdict.ensures.0 ∙ c.in-Refused.is) refl

@@ -1,0 +1,47 @@
+-- Where what is lent is accepted the count is that of the list's records, so the test is the definition's.
+-- there are at most twelve records, and eight sources more
+use mathlib.Core.Path.{◌≡◌, sym, ◌∙◌}
+use mathlib.Core.List.{List}
+use Prim.Native.Nat.{◌+◌, ◌≤◌}
+use native.Mathlib.Omega.{arith}
+use mir.Val.{Val}
+use denote.Laws.{Is}
+use borrow.Author.Rules.{rules}
+use Rattle.rules.specs.declared.Channels.{Channels}
+use Rattle.rules.specs.declared.Verdict.TheVariants as verdict
+use Rattle.rules.specs.Channels.{most_records, list_of}
+use Rattle.rules.specs.Outcomes.{State}
+use Rattle.rules.specs.Sources.{sources}
+use Rattle.rules.specs.Steps.{lent_verdict}
+use Rattle.rules.specs.contracts.Channels as S
+use Rattle.rules.proofs.WaitLaws.{lent-first, source_next, wait-accepted}
+use Rattle.rules.proofs.Refusals.{lent_sound}
+use Rattle.channels.proofs.ItemLaws.{count_short, list_count}
+use Rattle.machine.proofs.LentLaws.{not_accepted}
+use Rattle.machine.proofs.wait_verdict.Goals as goal
+
+counts : (s : State) (all : Channels) {vs : List Val} → Is S.the_row all vs → lent_verdict s (list_of all) ≡ verdict.Accepted
+    → (all.count ≤ most_records) × (sources (list_of all) ≡ 8 + all.count)
+unfolding sources
+counts s all good v =
+    let ok = (lent_sound s (list_of all) v).1 in
+    (count_short all good ok, omega (arith, list_count all good ok))
+
+pub overflow_add-all : goal.overflow_add-all
+overflow_add-all c =
+    omega (arith, (counts _ _ c.well_formed.1.0 (sym c.lent_verdict.ensures.0 ∙ c.in-Accepted.is)).0)
+
+pub returns-then-source-all : goal.returns-then-source-all
+returns-then-source-all c =
+    let v = sym c.lent_verdict.ensures.0 ∙ c.in-Accepted.is in (
+      sym (wait-accepted _ _ _ v (omega (arith, (counts _ _ c.well_formed.1.0 v).1))),
+      λ _. c.lent_verdict.ensures.1 c.in-Accepted.is,
+    )
+
+pub returns-else-source-all : goal.returns-else-source-all
+returns-else-source-all c =
+    let v = sym c.lent_verdict.ensures.0 ∙ c.in-Accepted.is in
+    (sym (source_next _ _ _ v (omega (arith, (counts _ _ c.well_formed.1.0 v).1))), λ e. not_accepted e)
+
+pub returns-in-Refused : goal.returns-in-Refused
+returns-in-Refused c = (sym (lent-first _ _ _ _ (sym c.lent_verdict.ensures.0 ∙ c.in-Refused.is)), λ e. not_accepted e)
