@@ -1,4 +1,4 @@
-// The functions for C (include/st9.h): the channel list is lent as bytes, seven a record, and the answer is told in numbers.
+// The functions for C, which crate `st9_c` exports (include/st9.h): the channel list is lent as bytes, seven a record, and the answer is told in numbers.
 ghost use Rattle.std.specs.Prelude.{◌≡◌};
 ghost use Rattle.rules.specs.Outcomes.{state};
 ghost use Rattle.rules.specs.Registers.{view_verdict};
@@ -10,8 +10,7 @@ use lent::unpacked;
 use rules::Flat;
 
 // One step, given as a word.
-#[unsafe(no_mangle)]
-pub extern "C" fn st9_step(image: &mut [u8], channels: &[u8], memory: &mut [u8], word: u64) -> Flat
+pub fn st9_step(image: &mut [u8], channels: &[u8], memory: &mut [u8], word: u64) -> Flat
     ensures { TellsStep (state image.old memory.old) channels.now word result (state image.new memory.new) }
 {
     let all = unpacked(channels);
@@ -19,13 +18,7 @@ pub extern "C" fn st9_step(image: &mut [u8], channels: &[u8], memory: &mut [u8],
 }
 
 // A run of steps given as words; and what demand 3 and the handlers' claim say of it.
-#[unsafe(no_mangle)]
-pub extern "C" fn st9_run(
-    image: &mut [u8],
-    channels: &[u8],
-    memory: &mut [u8],
-    words: &[u64],
-) -> Flat
+pub fn st9_run(image: &mut [u8], channels: &[u8], memory: &mut [u8], words: &[u64]) -> Flat
     ensures { TellsRun (state image.old memory.old) channels.now words.now result (state image.new memory.new) }
 {
     let all = unpacked(channels);
@@ -33,8 +26,7 @@ pub extern "C" fn st9_run(
 }
 
 // The wait report for a source over steps given as words; and what demand 3 and the handlers' claim say of it.
-#[unsafe(no_mangle)]
-pub extern "C" fn st9_wait(
+pub fn st9_wait(
     image: &mut [u8],
     channels: &[u8],
     memory: &mut [u8],
@@ -48,8 +40,7 @@ pub extern "C" fn st9_wait(
 }
 
 // Demand 3's bound for a source over steps given as words; and what it says.
-#[unsafe(no_mangle)]
-pub extern "C" fn st9_bound(image: &[u8], channels: &[u8], source: u32, words: &[u64]) -> Flat
+pub fn st9_bound(image: &[u8], channels: &[u8], source: u32, words: &[u64]) -> Flat
     ensures { TellsBound image.now channels.now source words.now result }
 {
     let all = unpacked(channels);
@@ -57,13 +48,7 @@ pub extern "C" fn st9_bound(image: &[u8], channels: &[u8], source: u32, words: &
 }
 
 // The same over lists with reads and writes.
-#[unsafe(no_mangle)]
-pub extern "C" fn st9_handler_bound(
-    image: &[u8],
-    channels: &[u8],
-    source: u32,
-    words: &[u64],
-) -> Flat
+pub fn st9_handler_bound(image: &[u8], channels: &[u8], source: u32, words: &[u64]) -> Flat
     ensures { TellsHandlerBound image.now channels.now source words.now result }
 {
     let all = unpacked(channels);
@@ -71,8 +56,7 @@ pub extern "C" fn st9_handler_bound(
 }
 
 // The number that the view of a page is refused with, 0 where it is accepted.
-#[unsafe(no_mangle)]
-pub extern "C" fn st9_view_number(image: &[u8], page: u32) -> u64
+pub fn st9_view_number(image: &[u8], page: u32) -> u64
     ensures { result ≡ told_verdict (view_verdict image.now page) }
 {
     verdict_number(registers::view_verdict(image, page))

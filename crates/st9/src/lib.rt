@@ -1,8 +1,8 @@
 // The public library. Each function takes the image, the channel list and the memory as they are lent, whatever they are, and answers for them: a bad one is refused with
-// document 01's number and every byte stays. The same for C is in `exports`.
+// document 01's number and every byte stays. The same for C, over bytes and in numbers, is in `exports`; crate `st9_c` exports it.
 #![tactic(auto)]
 
-mod exports;
+pub mod exports;
 
 ghost use Rattle.rules.specs.Outcomes.{state};
 ghost use Rattle.rules.specs.Promises.{Reads, Writes, Triggers, Arbitrates, Returns, Resets, DoesWord, RunClaims, WaitClaims, BoundClaims, HandlerBoundClaims, Views, ViewRefuses};

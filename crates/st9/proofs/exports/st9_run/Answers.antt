@@ -1,0 +1,15 @@
+-- What `machine::run` promises of the copy, said of the bytes and told in numbers.
+use borrow.Author.Rules.{rules}
+use Rattle.rules.specs.Outcomes.{state}
+use Rattle.st9.proofs.PackedPromises.{packed_runs}
+use Rattle.st9.proofs.exports.st9_run.Goals as goal
+
+pub returns : goal.returns
+returns c =
+    let d = c.run in
+    let u = c.unpacked-all in
+    let a = c.args in (
+      d.result,
+      c.of_run.ensures,
+      packed_runs a.channels.now u.result u.ensures (state a.image.now a.memory.now) a.words.now d.result (state d.new.image d.new.memory) d.ensures,
+    )
