@@ -4,7 +4,7 @@
 mod compare;
 mod images;
 
-ghost use Rattle.std.specs.Prelude.{◌≡◌, [], ◌∷◌, ◌≤◌};
+ghost use Rattle.std.specs.Prelude.{◌≡◌, [], ◌∷◌, ◌≤◌, IfOk};
 ghost use Rattle.rules.specs.Channels.{list_of};
 ghost use Rattle.rules.specs.Registers.{losses};
 ghost use Rattle.rules.specs.Runs.{one_if};
@@ -17,6 +17,7 @@ use rules::{
     Answer, CICR, Channels, EIPLR, EIPR, EIVR, Effect, IMAGE_LENGTH, Losses, MARK, MODER, Refusal,
     Step, Trigger,
 };
+use std::io::{self, Write};
 
 // ---- one step each: the answer and the whole image after it are these
 
@@ -241,50 +242,54 @@ fn c13() -> bool
 
 // ---- the marks
 
-fn text(t: &[u8]) {
-    io::write_all(1, t);
+fn text(rt: HostRuntime, t: &[u8]) -> io::Result<()> {
+    rt.stdout().write_all(t)
 }
 
 // Answers 1 for a pass, else 0.
-fn mark(name: &[u8], passed: bool) -> u64
-    ensures { (result ≤ 1) × (result ≡ one_if passed) }
+fn mark(rt: HostRuntime, name: &[u8], passed: bool) -> io::Result<u64>
+    ensures { IfOk result (λ n. (n ≤ 1) × (n ≡ one_if passed)) }
 {
-    text(name);
+    text(rt, name)?;
     if passed {
-        text(b" pass\n");
-        return 1;
+        text(rt, b" pass\n")?;
+        return Ok(1);
     }
-    text(b" fail\n");
-    0
+    text(rt, b" fail\n")?;
+    Ok(0)
 }
 
 // C01 to C06.
-fn first_marks() -> u64
-    ensures { result ≤ 6 }
+fn first_marks(rt: HostRuntime) -> io::Result<u64>
+    ensures { IfOk result (λ n. n ≤ 6) }
 {
-    mark(b"C01", c01())
-        + mark(b"C02", c02())
-        + mark(b"C03", c03())
-        + mark(b"C04", c04())
-        + mark(b"C05", c05())
-        + mark(b"C06", c06())
+    Ok(
+        mark(rt, b"C01", c01())?
+            + mark(rt, b"C02", c02())?
+            + mark(rt, b"C03", c03())?
+            + mark(rt, b"C04", c04())?
+            + mark(rt, b"C05", c05())?
+            + mark(rt, b"C06", c06())?,
+    )
 }
 
 // C07 to C13.
-fn last_marks() -> u64
-    ensures { result ≤ 7 }
+fn last_marks(rt: HostRuntime) -> io::Result<u64>
+    ensures { IfOk result (λ n. n ≤ 7) }
 {
-    mark(b"C07", c07())
-        + mark(b"C08", c08())
-        + mark(b"C09", c09())
-        + mark(b"C10", c10())
-        + mark(b"C11", c11())
-        + mark(b"C12", c12())
-        + mark(b"C13", c13())
+    Ok(
+        mark(rt, b"C07", c07())?
+            + mark(rt, b"C08", c08())?
+            + mark(rt, b"C09", c09())?
+            + mark(rt, b"C10", c10())?
+            + mark(rt, b"C11", c11())?
+            + mark(rt, b"C12", c12())?
+            + mark(rt, b"C13", c13())?,
+    )
 }
 
-fn main() {
-    let first = first_marks();
-    io::print_decimal(1, first + last_marks());
-    text(b"/13\n");
+fn main(rt: HostRuntime) -> io::Result<()> {
+    let first = first_marks(rt)?;
+    let last = last_marks(rt)?;
+    println!(rt; "{}/13", first + last)
 }

@@ -1,0 +1,6 @@
+-- There is no record.
+use borrow.Author.Rules.{rules}
+use Rattle.marked.proofs.acknowledges.Goals as goal
+
+pub returns : goal.returns
+returns c = rw (c.arbitrates.ensures, c.none.ensures)

@@ -1,0 +1,6 @@
+-- Both are the same.
+use borrow.Author.Rules.{rules}
+use Rattle.marked.proofs.compare.as_said.Goals as goal
+
+pub returns : goal.returns
+returns c = cc

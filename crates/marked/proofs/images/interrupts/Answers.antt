@@ -1,0 +1,8 @@
+-- The bytes are stored in the definition's order.
+use borrow.Author.Rules.{rules}
+use Rattle.rules.specs.Examples.{image}
+use Rattle.marked.proofs.images.interrupts.Goals as goal
+
+pub returns : goal.returns
+unfolding image
+returns c = rw c.zeros-m.ensures

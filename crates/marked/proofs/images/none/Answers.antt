@@ -1,0 +1,8 @@
+-- Its first 0 records.
+use borrow.Author.Rules.{rules}
+use Rattle.rules.specs.Channels.{list_of}
+use Rattle.marked.proofs.images.none.Goals as goal
+
+pub returns : goal.returns
+unfolding list_of
+returns c = rw c.records.ensures.1

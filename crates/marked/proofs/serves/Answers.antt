@@ -1,0 +1,6 @@
+-- There is the one record.
+use borrow.Author.Rules.{rules}
+use Rattle.marked.proofs.serves.Goals as goal
+
+pub returns : goal.returns
+returns c = rw (c.arbitrates.ensures, c.one.ensures)
