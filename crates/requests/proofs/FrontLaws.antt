@@ -1,6 +1,6 @@
 -- A least rank and its first position, gathered one position further; and what the scan passes over by them. Assumes nothing.
 use mathlib.Core.Path.{◌≡◌, refl, sym, ap, ◌∙◌}
-use mathlib.Core.Bool.{Bool, true, false, false≢true, cond, ◌&&◌}
+use mathlib.Core.Bool.{Bool, true, false, false≢true, cond}
 use mathlib.Core.Logic.{◌≢◌, ◌⊎◌, inl, inr, ⊎_elim}
 use mathlib.Core.List.{List}
 use Prim.Native.Nat.{ℕ, ◌+◌, ◌-◌, ◌*◌, ◌/◌, ◌^◌, ◌≤◌, ◌<◌}
@@ -11,7 +11,7 @@ use lib.Bits.{and_le_l}
 use lib.Count.{count_trailing_zeros}
 use lib.Dec.{T, eqb, ltb}
 use borrow.Author.Count.{below_more}
-use borrow.Author.Tests.{eq-eqb, ne_eqb, eqb-true, lt-ltb, le-ltb, ltb-true, ltb-false}
+use borrow.Author.Tests.{eq-eqb, ne_eqb, eqb-true, le-ltb, ltb-true, ltb-false}
 use Rattle.bits.specs.Bits.{bit, put_bit}
 use Rattle.bits.proofs.BitLaws.{bit_zero, bit-same, bit-other}
 use Rattle.bits.proofs.Tests.{passes, holds}

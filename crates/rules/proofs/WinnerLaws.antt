@@ -13,7 +13,7 @@ use borrow.Author.Tests.{ltb-true, eqb-true, lt-ltb, eq-eqb}
 use Rattle.rules.specs.declared.Channel.{Channel}
 use Rattle.rules.specs.declared.Winner.{Winner}
 use Rattle.rules.specs.declared.Winner.TheVariants as winner
-use Rattle.rules.specs.Image.{Image, at, has, IEN, CPL}
+use Rattle.rules.specs.Image.{Image, has, IEN, CPL}
 use Rattle.rules.specs.Sources.{sources, pending, unmasked, dma_enabled, level}
 use Rattle.rules.specs.Requests.{request_of, eligible, is_at, won_by, candidate, or_winner, first, winner_of_kind, winner_at_level, winner_of}
 use Rattle.rules.specs.Demand3.{outranks}

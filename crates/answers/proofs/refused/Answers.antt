@@ -1,5 +1,4 @@
 -- By the number of the refusal.
-use borrow.Author.Rules.{rules}
 use Rattle.answers.proofs.refused.Goals as goal
 
 pub returns : goal.returns

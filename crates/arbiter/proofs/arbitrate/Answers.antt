@@ -1,7 +1,6 @@
 -- The code makes the definition's tests in its order; past them the winner is the definition's, and each arm is one of `granted`. A DMA winner is
 -- the source of a record.
 use mathlib.Core.Path.{◌≡◌, sym, ◌∙◌}
-use borrow.Author.Rules.{rules}
 use Rattle.rules.specs.Channels.{list_of}
 use Rattle.rules.specs.Outcomes.{state}
 use Rattle.rules.specs.Arbitration.{granted, arbitrate_of}

@@ -1,5 +1,4 @@
 -- The code makes the definition's two changes: it puts TLIP, and then sets the mark.
-use borrow.Author.Rules.{rules}
 use Rattle.rules.specs.Arbitration.{entered_top}
 use Rattle.arbiter.proofs.enter_top.Goals as goal
 

@@ -1,6 +1,5 @@
 -- The mark decides as in the definition: it is cleared alone, or `unnest` makes the nested part and IEN is put after it.
 use mathlib.Core.Path.{sym, ◌∙◌}
-use borrow.Author.Rules.{rules}
 use Rattle.rules.specs.Return.{returned, return_of}
 use Rattle.arbiter.proofs.return_from_interrupt.Goals as goal
 

@@ -1,7 +1,5 @@
 -- The code is the definition, bit by bit, TLIP first.
 use mathlib.Core.Path.{sym, ◌∙◌}
-use borrow.Author.Rules.{rules}
-use borrow.Author.Tests.{not-true, not-false}
 use Rattle.rules.specs.Arbitration.{top_level}
 use Rattle.arbiter.proofs.top_level.Goals as goal
 

@@ -1,5 +1,4 @@
 -- Each arm calls the function of its kind, whose contract is this one at that trigger; an unknown kind is refused.
-use borrow.Author.Rules.{rules}
 use Rattle.rules.specs.Channels.{list_of}
 use Rattle.rules.specs.Triggers.{trigger_verdict, fired, trigger_of}
 use Rattle.arbiter.proofs.trigger.Goals as goal

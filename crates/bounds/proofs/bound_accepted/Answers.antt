@@ -1,6 +1,5 @@
 -- The premises on the start decide: where they hold the steps are followed.
 use mathlib.Core.Path.{sym, ◌∙◌}
-use borrow.Author.Rules.{rules}
 use Rattle.bounds.proofs.bound_accepted.Goals as goal
 
 pub returns-in-Hold : goal.returns-in-Hold

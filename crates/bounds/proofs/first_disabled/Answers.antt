@@ -1,7 +1,6 @@
 -- The code makes the definition's tests in the same order.
 use mathlib.Core.Path.{sym, ◌∙◌}
 use mathlib.Core.Bool.{and-false}
-use borrow.Author.Rules.{rules}
 use borrow.Author.Tests.{lt-ltb, le-ltb}
 use Rattle.rules.specs.Runs.{is_arbitration}
 use Rattle.bounds.proofs.first_disabled.Goals as goal

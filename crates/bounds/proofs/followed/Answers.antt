@@ -1,17 +1,13 @@
-use mathlib.Core.Path.{◌≡◌, sym, ap, ◌∙◌}
-use Prim.Native.Nat.{◌-◌, ◌≤◌}
+use mathlib.Core.Path.{sym, ap, ◌∙◌}
+use Prim.Native.Nat.{◌≤◌}
 use native.Mathlib.Omega.{arith}
-use lib.ListN.{length, drop}
 use borrow.Author.Rules.{rules}
 use borrow.Author.Tests.{lt-ltb, le-ltb}
-use Rattle.rules.specs.Image.{image_length}
 use Rattle.rules.specs.Channels.{list_of}
-use Rattle.rules.specs.Outcomes.{alone}
-use Rattle.rules.specs.Runs.{history, one_if}
-use Rattle.rules.specs.Demand3.{rival, H}
-use Rattle.rules.specs.Encodings.{steps_of}
+use Rattle.rules.specs.Runs.{one_if}
+use Rattle.rules.specs.Demand3.{rival}
 use Rattle.rules.proofs.Counting.{one_le}
-use Rattle.bounds.specs.Followed.{rival_triggered, followed_from}
+use Rattle.bounds.specs.Followed.{rival_triggered}
 use Rattle.dispatch.proofs.NextSteps.{next_alone, no_word}
 use Rattle.runs.proofs.RunSteps.{as_decoded}
 use Rattle.bounds.proofs.FollowedSteps.{triggers-told, followed-start, followed_end, followed-other, followed_on}

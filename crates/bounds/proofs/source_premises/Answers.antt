@@ -2,8 +2,7 @@
 -- ---- what the tests say where they are passed
 use mathlib.Core.Path.{◌≡◌, sym, ◌∙◌}
 use mathlib.Core.Bool.{true}
-use borrow.Author.Rules.{rules}
-use borrow.Author.Tests.{not-true, not-false, lt-ltb, le-ltb}
+use borrow.Author.Tests.{lt-ltb, le-ltb}
 use Rattle.rules.specs.Channels.{list_of}
 use Rattle.rules.specs.Sources.{pending, unmasked}
 use Rattle.rules.specs.Bounds.{source_premises}

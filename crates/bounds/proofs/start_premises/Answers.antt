@@ -2,7 +2,6 @@
 -- ---- what the tests say where they are passed
 use mathlib.Core.Path.{◌≡◌, sym, ap₂, ◌∙◌}
 use mathlib.Core.Bool.{Bool, false, ◌||◌}
-use borrow.Author.Rules.{rules}
 use Rattle.rules.specs.Image.{has, IAM}
 use Rattle.rules.specs.Channels.{list_of}
 use Rattle.rules.specs.Bounds.{any_dma, top_level_enabled, calm_premises}

@@ -5,7 +5,6 @@ use native.Mathlib.Omega.{arith}
 use Rattle.rules.specs.Channels.{list_of}
 use Rattle.rules.specs.Demand3.{rival}
 use Rattle.sources.proofs.SourceReads.{few-pending}
-use borrow.Author.Rules.{rules}
 use Rattle.bounds.proofs.within.Goals as goal
 
 pub overflow_add-result : goal.overflow_add-result

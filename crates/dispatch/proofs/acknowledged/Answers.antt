@@ -1,5 +1,4 @@
 -- Each kind of answer is the definition's.
-use borrow.Author.Rules.{rules}
 use Rattle.dispatch.proofs.acknowledged.Goals as goal
 
 pub returns-in-Acknowledged : goal.returns-in-Acknowledged

@@ -1,7 +1,6 @@
 -- Each arm is the definition's.
 -- what is answered and left of the image is the step's outcome, with the memory as it was
 use mathlib.Core.Path.{◌≡◌, ap}
-use borrow.Author.Rules.{rules}
 use Rattle.rules.specs.declared.Answer.{Answer}
 use Rattle.rules.specs.Image.{Image, Memory}
 use Rattle.rules.specs.Outcomes.{state, Outcome, outcome}

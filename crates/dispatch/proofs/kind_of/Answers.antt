@@ -1,5 +1,4 @@
 -- Each arm is the definition's.
-use borrow.Author.Rules.{rules}
 use Rattle.dispatch.proofs.kind_of.Goals as goal
 
 pub returns-in-Triggered : goal.returns-in-Triggered

@@ -1,5 +1,4 @@
 -- Each kind of answer is the definition's.
-use borrow.Author.Rules.{rules}
 use Rattle.dispatch.proofs.verdict_of.Goals as goal
 
 pub returns-in-Refused : goal.returns-in-Refused

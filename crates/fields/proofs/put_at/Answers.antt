@@ -1,5 +1,4 @@
 -- The code is the definition.
-use borrow.Author.Rules.{rules}
 use Rattle.rules.specs.Image.{put}
 use Rattle.fields.proofs.put_at.Goals as goal
 

@@ -1,7 +1,6 @@
 -- The code is the definition; a byte's upper five bits and a level below 8 fit a byte.
 use mathlib.Core.Path.{refl}
 use native.Mathlib.Omega.{arith}
-use borrow.Author.Rules.{rules}
 use Rattle.rules.specs.Image.{CICR, put_CPL}
 use Rattle.fields.proofs.put_cpl.Goals as goal
 

@@ -1,6 +1,5 @@
 -- The code makes the definition's tests in the same order.
 use mathlib.Core.Path.{sym, ◌∙◌}
-use borrow.Author.Rules.{rules}
 use Rattle.handlers.proofs.broken_call.Goals as goal
 
 pub returns-then-disabled : goal.returns-then-disabled

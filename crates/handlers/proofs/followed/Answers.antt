@@ -1,17 +1,8 @@
-use mathlib.Core.Path.{◌≡◌, refl, sym, ◌∙◌}
-use Prim.Native.Nat.{◌*◌, ◌-◌, ◌≤◌}
+use mathlib.Core.Path.{refl, sym, ◌∙◌}
+use Prim.Native.Nat.{◌≤◌}
 use native.Mathlib.Omega.{arith}
-use lib.ListN.{length, drop}
 use borrow.Author.Rules.{rules}
-use Rattle.rules.specs.Image.{image_length}
-use Rattle.rules.specs.Channels.{list_of}
-use Rattle.rules.specs.Outcomes.{alone}
-use Rattle.rules.specs.Runs.{history}
-use Rattle.rules.specs.Demand3.{rival, H}
-use Rattle.rules.specs.Handlers.{up_to}
-use Rattle.rules.specs.Encodings.{steps_of}
 use Rattle.dispatch.proofs.NextSteps.{next_alone, no_word}
-use Rattle.handlers.specs.Handled.{followed_from}
 use Rattle.handlers.proofs.FollowLaws.{follows_few, broken_some, broken-none, followed-start, followed_end, followed-broken, followed-last, followed_on}
 use Rattle.handlers.proofs.followed.Goals as goal
 
@@ -50,8 +41,7 @@ returns-then-acknowledged c =
 pub loop-done-preserved : goal.loop-done-preserved
 loop-done-preserved c =
     let few : c.follow-f.result.more ≤ 12 = follows_few _ _ _ _ _ _ _ _ c.requires.1 c.follow-f.ensures in
-    let i = c.loop-done.invariant in
-    (
+    let i = c.loop-done.invariant in (
       omega arith,
       omega (arith, few),
       search rules,

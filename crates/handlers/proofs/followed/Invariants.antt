@@ -1,10 +1,8 @@
 -- The invariant: what is answered of all the words is what is answered of those that are left, after the steps done on the copy, with what these triggered and
 -- raised, twelve a step at most.
-use mathlib.Core.Path.{◌≡◌, refl, sym, ◌∙◌}
+use mathlib.Core.Path.{◌≡◌}
 use Prim.Native.Nat.{◌*◌, ◌-◌, ◌≤◌}
-use native.Mathlib.Omega.{arith}
 use lib.ListN.{length, drop}
-use borrow.Author.Rules.{rules}
 use Rattle.rules.specs.Image.{image_length}
 use Rattle.rules.specs.Channels.{list_of}
 use Rattle.rules.specs.Outcomes.{alone}
@@ -12,9 +10,7 @@ use Rattle.rules.specs.Runs.{history}
 use Rattle.rules.specs.Demand3.{rival, H}
 use Rattle.rules.specs.Handlers.{up_to}
 use Rattle.rules.specs.Encodings.{steps_of}
-use Rattle.dispatch.proofs.NextSteps.{next_alone, no_word}
 use Rattle.handlers.specs.Handled.{followed_from}
-use Rattle.handlers.proofs.FollowLaws.{follows_few, broken_some, broken-none, followed-start, followed_end, followed-broken, followed-last, followed_on}
 use Rattle.handlers.proofs.followed.Given as goal
 
 abbrev pub invariant-loop-done : goal.invariant-loop-done

@@ -1,5 +1,4 @@
 -- Each arm is the definition's.
-use borrow.Author.Rules.{rules}
 use Rattle.handlers.proofs.is_file_write.Goals as goal
 
 pub returns-in-Write : goal.returns-in-Write

@@ -1,6 +1,5 @@
 -- Where the verdict accepts the premises are looked at, and else the bound is refused; the definition goes by the same verdict.
 use mathlib.Core.Path.{refl, sym, ◌∙◌}
-use borrow.Author.Rules.{rules}
 use Rattle.machine.proofs.LentLaws.{source_laid, bounds_by}
 use Rattle.machine.proofs.bound.Goals as goal
 

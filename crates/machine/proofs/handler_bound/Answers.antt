@@ -1,6 +1,5 @@
 -- Where the verdict accepts the premises are looked at, and else the bound is refused; the definition goes by the same verdict.
 use mathlib.Core.Path.{refl, sym, ◌∙◌}
-use borrow.Author.Rules.{rules}
 use Rattle.machine.proofs.LentLaws.{source_laid, handler_bounds_by}
 use Rattle.machine.proofs.handler_bound.Goals as goal
 

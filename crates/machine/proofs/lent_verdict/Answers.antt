@@ -3,7 +3,6 @@
 use mathlib.Core.Path.{◌≡◌, refl, sym, ◌∙◌}
 use mathlib.Core.Bool.{true}
 use mathlib.Core.List.{[]}
-use borrow.Author.Rules.{rules}
 use Rattle.rules.specs.declared.Channels.{Channels}
 use Rattle.rules.specs.Channels.{records_ok, distinct, all_bytes, list_ok, list_of}
 use Rattle.rules.specs.Outcomes.{state}

@@ -1,6 +1,5 @@
 -- Where what is lent is accepted the step is done, and else it is refused; the definition goes by the same verdict.
 use mathlib.Core.Path.{refl, sym, ◌∙◌}
-use borrow.Author.Rules.{rules}
 use Rattle.machine.proofs.LentLaws.{lent_laid, does-by}
 use Rattle.machine.proofs.one_step.Goals as goal
 

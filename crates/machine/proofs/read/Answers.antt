@@ -1,6 +1,5 @@
 -- Where what is lent is accepted the register is read, and else the read is refused; the definition goes by the same verdict.
 use mathlib.Core.Path.{refl, sym, ap, ◌∙◌}
-use borrow.Author.Rules.{rules}
 use Rattle.rules.specs.declared.Answer.{Answer}
 use Rattle.rules.specs.Outcomes.{alone, outcome}
 use Rattle.rules.specs.Steps.{act_of}

@@ -1,6 +1,5 @@
 -- Where what is lent is accepted the steps are run, and else the run is refused; the definition goes by the same verdict.
 use mathlib.Core.Path.{sym, ◌∙◌}
-use borrow.Author.Rules.{rules}
 use Rattle.machine.proofs.LentLaws.{lent_laid, run-refuses}
 use Rattle.machine.proofs.run.Goals as goal
 

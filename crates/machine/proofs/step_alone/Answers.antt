@@ -1,6 +1,5 @@
 -- The memory that the step gets has no byte, and so has what it leaves.
 use mathlib.Core.Path.{◌∙◌}
-use borrow.Author.Rules.{rules}
 use Rattle.rules.proofs.MemoryLaws.{alone-is}
 use Rattle.machine.proofs.step_alone.Goals as goal
 

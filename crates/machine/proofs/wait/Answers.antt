@@ -1,6 +1,5 @@
 -- Where the verdict accepts the steps are done, and else the wait report is refused; the definition goes by the same verdict.
 use mathlib.Core.Path.{sym, ◌∙◌}
-use borrow.Author.Rules.{rules}
 use Rattle.machine.proofs.LentLaws.{source_laid, wait-refuses}
 use Rattle.machine.proofs.wait.Goals as goal
 

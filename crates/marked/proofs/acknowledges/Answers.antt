@@ -1,5 +1,4 @@
 -- There is no record.
-use borrow.Author.Rules.{rules}
 use Rattle.marked.proofs.acknowledges.Goals as goal
 
 pub returns : goal.returns

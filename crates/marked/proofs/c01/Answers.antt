@@ -1,6 +1,5 @@
 -- Each step is compared with the example.
 use mathlib.Core.Bool.{and-true}
-use borrow.Author.Rules.{rules}
 use Rattle.rules.specs.Examples.{c01}
 use Rattle.marked.proofs.c01.Goals as goal
 

@@ -1,6 +1,5 @@
 -- Each step is compared with the example.
 use mathlib.Core.Bool.{and-true}
-use borrow.Author.Rules.{rules}
 use Rattle.rules.specs.Examples.{c02}
 use Rattle.marked.proofs.c02.Goals as goal
 

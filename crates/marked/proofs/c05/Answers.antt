@@ -1,6 +1,5 @@
 -- Each step is compared with the example.
 use mathlib.Core.Bool.{and-true}
-use borrow.Author.Rules.{rules}
 use Rattle.rules.specs.Examples.{c05}
 use Rattle.marked.proofs.c05.Goals as goal
 

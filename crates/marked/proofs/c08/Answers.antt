@@ -1,6 +1,5 @@
 -- Each step is compared with the example.
 use mathlib.Core.Bool.{and-true, and_assoc}
-use borrow.Author.Rules.{rules}
 use Rattle.rules.specs.Examples.{c08}
 use Rattle.marked.proofs.c08.Goals as goal
 

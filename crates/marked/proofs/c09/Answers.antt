@@ -1,6 +1,5 @@
 -- Each step is compared with the example.
 use mathlib.Core.Bool.{and-true}
-use borrow.Author.Rules.{rules}
 use Rattle.rules.specs.Image.{page_byte}
 use Rattle.rules.specs.Channels.{idcr_byte}
 use Rattle.rules.specs.Examples.{c09}

@@ -1,6 +1,5 @@
 -- Each step is compared with the example.
 use mathlib.Core.Bool.{and-true}
-use borrow.Author.Rules.{rules}
 use Rattle.rules.specs.Examples.{c12}
 use Rattle.marked.proofs.c12.Goals as goal
 

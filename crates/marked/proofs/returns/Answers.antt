@@ -1,6 +1,5 @@
 -- The step does what its promise says, and that is compared.
 use mathlib.Core.Path.{◌∙◌}
-use borrow.Author.Rules.{rules}
 use Rattle.marked.proofs.PassLaws.{compared}
 use Rattle.marked.proofs.returns.Goals as goal
 

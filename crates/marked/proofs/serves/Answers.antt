@@ -1,5 +1,4 @@
 -- There is the one record.
-use borrow.Author.Rules.{rules}
 use Rattle.marked.proofs.serves.Goals as goal
 
 pub returns : goal.returns

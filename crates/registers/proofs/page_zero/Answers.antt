@@ -1,5 +1,4 @@
 -- The two tests are the bounds of `between 242 247`.
-use borrow.Author.Rules.{rules}
 use borrow.Author.Tests.{lt-leb, le-leb}
 use Rattle.rules.specs.Registers.{page_zero}
 use Rattle.registers.proofs.page_zero.Goals as goal

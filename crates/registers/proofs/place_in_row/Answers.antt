@@ -1,5 +1,4 @@
 -- The code looks where the definition does, with 240 taken away last, and makes its choice by the same test.
-use borrow.Author.Rules.{rules}
 use borrow.Author.Tests.{eq-eqb, ne_eqb}
 use Rattle.channels.proofs.LaidLaws.{in_row}
 use Rattle.registers.proofs.place_in_row.Goals as goal

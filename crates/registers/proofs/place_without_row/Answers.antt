@@ -1,5 +1,4 @@
 -- The code makes the definition's choice, by the same test.
-use borrow.Author.Rules.{rules}
 use borrow.Author.Tests.{eq-eqb, ne_eqb}
 use Rattle.registers.proofs.place_without_row.Goals as goal
 

@@ -1,6 +1,5 @@
 -- `place_of` gives the definition's place, which lies in the image; the two arms are those of `read_at`.
 use mathlib.Core.Path.{sym}
-use borrow.Author.Rules.{rules}
 use Rattle.rules.specs.Image.{PPR}
 use Rattle.rules.specs.Registers.{read_of}
 use Rattle.registers.proofs.Bounds.{place_in_image}

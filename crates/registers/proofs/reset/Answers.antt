@@ -1,11 +1,11 @@
 use mathlib.Core.Path.{◌≡◌, refl, sym, ap, ◌∙◌}
 use mathlib.Core.List.{List, map}
-use Prim.Native.Nat.{ℕ, ◌-◌, ◌≤◌}
+use Prim.Native.Nat.{ℕ}
 use native.Mathlib.Omega.{arith}
 use native.Mathlib.Numerals.{add-one}
-use lib.ListN.{length, get_or, length-set, get_or-map}
+use lib.ListN.{get_or, length-set, get_or-map}
 use borrow.Author.Rules.{rules}
-use Rattle.rules.specs.Image.{image_length, MARK}
+use Rattle.rules.specs.Image.{MARK}
 use Rattle.rules.specs.Table.{Row, no_row, rows, row_at, row_count}
 use Rattle.rules.specs.Registers.{reset_byte, reset_row, reset_rows, reset_of}
 use Rattle.rules.proofs.ResetLaws.{row_below}

@@ -1,16 +1,11 @@
 -- The invariant: the first k rows of the table are reset, and the image is as long as before.
 -- entry k of a column is that of row k
-use mathlib.Core.Path.{◌≡◌, refl, sym, ap, ◌∙◌}
-use mathlib.Core.List.{List, map}
-use Prim.Native.Nat.{ℕ, ◌-◌, ◌≤◌}
-use native.Mathlib.Omega.{arith}
-use native.Mathlib.Numerals.{add-one}
-use lib.ListN.{length, get_or, length-set, get_or-map}
-use borrow.Author.Rules.{rules}
-use Rattle.rules.specs.Image.{image_length, MARK}
-use Rattle.rules.specs.Table.{Row, no_row, rows, row_at, row_count}
-use Rattle.rules.specs.Registers.{reset_byte, reset_row, reset_rows, reset_of}
-use Rattle.rules.proofs.ResetLaws.{row_below}
+use mathlib.Core.Path.{◌≡◌}
+use Prim.Native.Nat.{◌-◌, ◌≤◌}
+use lib.ListN.{length}
+use Rattle.rules.specs.Image.{image_length}
+use Rattle.rules.specs.Table.{row_count}
+use Rattle.rules.specs.Registers.{reset_rows}
 use Rattle.registers.proofs.reset.Given as goal
 
 abbrev pub invariant-loop-k : goal.invariant-loop-k

@@ -2,7 +2,6 @@
 use mathlib.Core.Path.{sym, ◌∙◌}
 use native.Mathlib.Omega.{arith}
 use native.Mathlib.Nat.{add-zero, add-sub_cancel_left}
-use borrow.Author.Rules.{rules}
 use Rattle.rules.specs.Image.{page_byte}
 use Rattle.rules.specs.Registers.{view_of}
 use Rattle.rules.proofs.ViewLaws.{view_only, view_empty}

@@ -4,7 +4,6 @@ use Prim.Native.Nat.{◌+◌}
 use Rattle.requests.specs.declared.Limits.{Limits}
 use Rattle.requests.specs.Ranks.{rank_at, scanned}
 use Rattle.requests.proofs.FrontLaws.{scanned_nobody}
-use borrow.Author.Rules.{rules}
 use Rattle.requests.proofs.chosen.Goals as goal
 
 pub returns-then-front-eq-NO_RANK : goal.returns-then-front-eq-NO_RANK

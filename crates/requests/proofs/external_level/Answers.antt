@@ -4,7 +4,6 @@ use Prim.Native.Nat.{ℕ, ◌+◌, ◌*◌, ◌/◌, ◌%◌, ◌^◌}
 use native.Mathlib.Omega.{arith}
 use Rattle.bits.proofs.Tests.{same-below}
 use Rattle.rules.proofs.LevelLaws.{external-level}
-use borrow.Author.Rules.{rules}
 use Rattle.requests.proofs.external_level.Goals as goal
 
 pub returns : goal.returns

@@ -3,7 +3,6 @@ use mathlib.Core.Path.{sym, ap, ◌∙◌}
 use native.Mathlib.Omega.{arith}
 use Rattle.rules.proofs.LevelLaws.{external-level}
 use Rattle.requests.specs.Ranks.{external_rank, interrupt_rank}
-use borrow.Author.Rules.{rules}
 use Rattle.requests.proofs.external_rank.Goals as goal
 
 pub interrupt_rank-requires : goal.interrupt_rank-requires

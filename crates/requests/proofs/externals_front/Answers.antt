@@ -4,8 +4,7 @@ use native.Mathlib.Omega.{arith}
 use Rattle.rules.proofs.LevelLaws.{external-level}
 use Rattle.requests.specs.Ranks.{interrupt_rank, external_rank}
 use Rattle.requests.proofs.RankLaws.{external_ranked}
-use Rattle.requests.proofs.FrontLaws.{front_limit, Left, left-all, left-none, left_keep, left-take, left_less}
-use borrow.Author.Rules.{rules}
+use Rattle.requests.proofs.FrontLaws.{front_limit, left-all, left-none, left_keep, left-take, left_less}
 use Rattle.requests.proofs.externals_front.Goals as goal
 use Rattle.requests.proofs.externals_front.Goals.{After-put_bit-left, After-interrupt_rank-r}
 

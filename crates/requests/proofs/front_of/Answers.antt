@@ -2,10 +2,8 @@
 use mathlib.Core.Path.{sym, ◌∙◌}
 use Prim.Native.Nat.{◌+◌}
 use native.Mathlib.Omega.{arith}
-use Rattle.requests.specs.Ranks.{rank_at, IsFront}
 use Rattle.requests.proofs.RankLaws.{rank_external, ruled_out}
 use Rattle.requests.proofs.FrontLaws.{front_same, front_on}
-use borrow.Author.Rules.{rules}
 use Rattle.requests.proofs.front_of.Goals as goal
 
 pub records_front-requires : goal.records_front-requires

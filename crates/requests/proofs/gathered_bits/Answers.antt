@@ -1,6 +1,6 @@
 use mathlib.Core.Path.{◌≡◌, sym, ◌∙◌}
 use mathlib.Core.Bool.{false}
-use Prim.Native.Nat.{ℕ, ◌-◌, ◌≤◌}
+use Prim.Native.Nat.{ℕ}
 use native.Mathlib.Nat.{not-suc-le-zero}
 use native.Mathlib.Omega.{arith}
 use borrow.Author.Count.{below_more}
@@ -8,9 +8,7 @@ use lib.Bits.{bit_or}
 use Rattle.bits.proofs.BitLaws.{bit-bit_or}
 use Rattle.bits.specs.Bits.{bit}
 use Rattle.rules.proofs.Bools.{or_off, or_off_r}
-use Rattle.rules.specs.Channels.{most_records}
-use Rattle.requests.specs.Ranks.{Gathered, idcr_at}
-use borrow.Author.Rules.{rules}
+use Rattle.requests.specs.Ranks.{idcr_at}
 use Rattle.requests.proofs.gathered_bits.Goals as goal
 
 pub loop-k-init : goal.loop-k-init

@@ -1,6 +1,5 @@
 -- The code makes the definition's test.
 use mathlib.Core.Path.{sym, ◌∙◌}
-use borrow.Author.Rules.{rules}
 use Rattle.requests.proofs.interrupt_limit.Goals as goal
 
 pub returns-then-has_bit : goal.returns-then-has_bit

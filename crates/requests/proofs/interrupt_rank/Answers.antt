@@ -1,6 +1,5 @@
 -- The code makes the definition's test.
 use native.Mathlib.Omega.{arith}
-use borrow.Author.Rules.{rules}
 use borrow.Author.Tests.{lt-ltb, le-ltb}
 use Rattle.requests.specs.Ranks.{interrupt_rank}
 use Rattle.requests.proofs.interrupt_rank.Goals as goal

@@ -1,5 +1,4 @@
 -- Each limit is the definition's.
-use borrow.Author.Rules.{rules}
 use Rattle.requests.proofs.limits_of.Goals as goal
 
 pub returns : goal.returns

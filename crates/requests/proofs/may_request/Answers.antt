@@ -1,8 +1,6 @@
 -- The code makes the definition's tests, IP's first.
 use mathlib.Core.Path.{sym, ◌∙◌}
-use borrow.Author.Tests.{not-true, not-false}
 use Rattle.requests.specs.Ranks.{may_request}
-use borrow.Author.Rules.{rules}
 use Rattle.requests.proofs.may_request.Goals as goal
 
 pub returns-then-not-has_bit : goal.returns-then-not-has_bit

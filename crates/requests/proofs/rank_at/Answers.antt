@@ -3,7 +3,6 @@ use mathlib.Core.Path.{sym, ◌∙◌}
 use Prim.Native.Nat.{◌-◌}
 use native.Mathlib.Omega.{arith}
 use Rattle.requests.proofs.RankLaws.{rank_external, rank_record}
-use borrow.Author.Rules.{rules}
 use Rattle.requests.proofs.rank_at.Goals as goal
 
 pub returns-then-position-lt-EXTERNALS : goal.returns-then-position-lt-EXTERNALS

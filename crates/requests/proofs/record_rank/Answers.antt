@@ -2,8 +2,7 @@
 -- past the first test IP is 1, and past the second DM what the branch says
 use mathlib.Core.Path.{◌≡◌, sym, ◌∙◌}
 use mathlib.Core.Bool.{true, false}
-use borrow.Author.Rules.{rules}
-use borrow.Author.Tests.{lt-ltb, le-ltb, not-true, not-false}
+use borrow.Author.Tests.{lt-ltb, le-ltb}
 use Rattle.bits.specs.Bits.{bit}
 use Rattle.requests.specs.Ranks.{record_request, rank_of}
 use Rattle.requests.proofs.record_rank.Goals as goal

@@ -1,10 +1,7 @@
 use mathlib.Core.Path.{◌≡◌, ◌∙◌}
-use Prim.Native.Nat.{◌+◌, ◌-◌, ◌≤◌}
 use native.Mathlib.Omega.{arith}
-use Rattle.requests.specs.Ranks.{rank_at, IsFront}
 use Rattle.requests.proofs.RankLaws.{rank_of_record}
 use Rattle.requests.proofs.FrontLaws.{front_keep, front_take}
-use borrow.Author.Rules.{rules}
 use Rattle.requests.proofs.records_front.Goals as goal
 
 pub loop-k-init : goal.loop-k-init

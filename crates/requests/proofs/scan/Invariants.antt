@@ -1,15 +1,9 @@
 -- Three loops with one invariant: winner.Nobody so far. A hit is the first of its kind and level, and so the first of all.
-use mathlib.Core.Path.{◌≡◌, refl, sym, ◌∙◌}
-use Prim.Native.Nat.{◌+◌, ◌-◌, ◌*◌, ◌≤◌, ◌<◌}
-use native.Mathlib.Omega.{arith}
-use Rattle.rules.specs.declared.Winner.{Winner}
+use mathlib.Core.Path.{◌≡◌}
+use Prim.Native.Nat.{◌-◌, ◌≤◌}
 use Rattle.rules.specs.declared.Winner.TheVariants as winner
 use Rattle.rules.specs.Requests.{first}
-use Rattle.rules.proofs.WinnerLaws.{won_somebody}
-use Rattle.requests.specs.Ranks.{rank_at, found, found_of_kind, found_at_level, scanned}
-use Rattle.requests.proofs.FirstLaws.{first_more, first_hit, first_end}
-use Rattle.requests.proofs.FrontLaws.{found_none, found_here, found_below, level-below, found-start}
-use borrow.Author.Rules.{rules}
+use Rattle.requests.specs.Ranks.{rank_at, found, found_of_kind, found_at_level}
 use Rattle.requests.proofs.scan.Given as goal
 
 abbrev pub invariant-loop-position : goal.invariant-loop-position

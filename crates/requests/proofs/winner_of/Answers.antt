@@ -3,7 +3,6 @@ use mathlib.Core.Path.{◌≡◌, refl, sym, ap, ◌∙◌}
 use Prim.Native.Nat.{ℕ, ◌+◌}
 use native.Mathlib.Omega.{arith}
 use lib.ListN.{get_or}
-use borrow.Author.Tests.{not-true}
 use Rattle.rules.specs.Channels.{list_of}
 use Rattle.rules.specs.Sources.{sources}
 use Rattle.rules.proofs.ChannelLaws.{list_short}
@@ -11,7 +10,6 @@ use Rattle.channels.proofs.LaidLaws.{places_in}
 use Rattle.requests.specs.Ranks.{limits_of, scanned}
 use Rattle.requests.proofs.RankLaws.{scanned_winner}
 use Rattle.requests.proofs.FrontLaws.{front_idle, scanned_nobody}
-use borrow.Author.Rules.{rules}
 use Rattle.requests.proofs.winner_of.Goals as goal
 
 pub gathered_bits-gathered-requires : goal.gathered_bits-gathered-requires

@@ -1,5 +1,4 @@
 -- A list of one word stops after it, with its answer.
-use borrow.Author.Rules.{rules}
 use Rattle.runs.proofs.RunSteps.{step-stopped}
 use Rattle.runs.proofs.perform.Goals as goal
 

@@ -1,6 +1,5 @@
 -- The memory that the step gets has no byte, and so has what it leaves.
 use mathlib.Core.Path.{ap, ◌∙◌}
-use borrow.Author.Rules.{rules}
 use Rattle.rules.specs.Outcomes.{State, outcome}
 use Rattle.rules.proofs.MemoryLaws.{alone-is}
 use Rattle.runs.proofs.perform_alone.Goals as goal

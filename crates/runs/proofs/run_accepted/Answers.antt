@@ -1,6 +1,5 @@
 -- A run answers by where its steps stopped; the arms are those of the definition.
 use mathlib.Core.Path.{sym, ◌∙◌}
-use borrow.Author.Rules.{rules}
 use Rattle.rules.specs.Encodings.{told_run}
 use Rattle.runs.proofs.RunSteps.{run-stopped, promised}
 use Rattle.runs.proofs.run_accepted.Goals as goal

@@ -1,15 +1,8 @@
-use mathlib.Core.Path.{◌≡◌, refl, sym, ◌∙◌}
-use Prim.Native.Nat.{◌-◌, ◌≤◌}
+use mathlib.Core.Path.{refl, sym, ◌∙◌}
 use native.Mathlib.Omega.{arith}
-use lib.ListN.{length, drop}
 use borrow.Author.Rules.{rules}
-use Rattle.rules.specs.Channels.{list_of}
-use Rattle.rules.specs.Outcomes.{state}
-use Rattle.rules.specs.Runs.{run_events}
-use Rattle.rules.specs.Encodings.{steps_of}
 use Rattle.dispatch.proofs.NextSteps.{next_word, no_word}
-use Rattle.runs.specs.Stops.{stop_of}
-use Rattle.runs.proofs.RunSteps.{stop_from, stop_starts, stop_on, stop_refused, stop_end}
+use Rattle.runs.proofs.RunSteps.{stop_starts, stop_on, stop_refused, stop_end}
 use Rattle.runs.proofs.steps_of.Goals as goal
 
 pub loop-steps-init : goal.loop-steps-init

@@ -1,16 +1,11 @@
-use mathlib.Core.Path.{◌≡◌, refl, sym, ◌∙◌}
-use Prim.Native.Nat.{◌-◌, ◌≤◌}
+use mathlib.Core.Path.{refl, sym, ◌∙◌}
 use native.Mathlib.Omega.{arith}
-use lib.ListN.{length, drop}
 use borrow.Author.Rules.{rules}
-use Rattle.rules.specs.declared.Answer.TheVariants as answer
-use Rattle.rules.specs.Channels.{list_of}
-use Rattle.rules.specs.Outcomes.{state}
-use Rattle.rules.specs.Runs.{is_arbitration, wait_events, wait_of}
-use Rattle.rules.specs.Encodings.{steps_of, told_wait}
+use Rattle.rules.specs.Runs.{is_arbitration}
+use Rattle.rules.specs.Encodings.{told_wait}
 use Rattle.rules.proofs.Counting.{one_le}
 use Rattle.dispatch.proofs.NextSteps.{next_word, no_word}
-use Rattle.runs.proofs.RunSteps.{promised, wait_from, wait-starts, wait_on, wait-acknowledges, wait_stop, wait_end}
+use Rattle.runs.proofs.RunSteps.{promised, wait-starts, wait_on, wait-acknowledges, wait_stop, wait_end}
 use Rattle.runs.proofs.wait_accepted.Goals as goal
 
 pub loop-done-init : goal.loop-done-init

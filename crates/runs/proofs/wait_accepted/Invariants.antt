@@ -1,18 +1,14 @@
 -- The invariant: the wait report of all the words is that of what is left, after the steps done and the arbitrations made, which are no more than
 -- the steps.
-use mathlib.Core.Path.{◌≡◌, refl, sym, ◌∙◌}
+use mathlib.Core.Path.{◌≡◌}
 use Prim.Native.Nat.{◌-◌, ◌≤◌}
-use native.Mathlib.Omega.{arith}
 use lib.ListN.{length, drop}
-use borrow.Author.Rules.{rules}
 use Rattle.rules.specs.declared.Answer.TheVariants as answer
 use Rattle.rules.specs.Channels.{list_of}
 use Rattle.rules.specs.Outcomes.{state}
-use Rattle.rules.specs.Runs.{is_arbitration, wait_events, wait_of}
-use Rattle.rules.specs.Encodings.{steps_of, told_wait}
-use Rattle.rules.proofs.Counting.{one_le}
-use Rattle.dispatch.proofs.NextSteps.{next_word, no_word}
-use Rattle.runs.proofs.RunSteps.{promised, wait_from, wait-starts, wait_on, wait-acknowledges, wait_stop, wait_end}
+use Rattle.rules.specs.Runs.{wait_events, wait_of}
+use Rattle.rules.specs.Encodings.{steps_of}
+use Rattle.runs.proofs.RunSteps.{wait_from}
 use Rattle.runs.proofs.wait_accepted.Given as goal
 
 abbrev pub invariant-loop-done : goal.invariant-loop-done

@@ -1,12 +1,9 @@
 use mathlib.Core.Path.{sym, ◌∙◌}
-use Prim.Native.Nat.{◌-◌}
 use native.Mathlib.Omega.{arith}
-use borrow.Author.Rules.{rules}
-use Rattle.rules.specs.Channels.{list_of}
-use Rattle.rules.specs.Sources.{sources, dma_enabled}
+use Rattle.rules.specs.Sources.{sources}
 use Rattle.rules.proofs.AnyBelow.{any_none}
 use Rattle.sources.proofs.SourceReads.{external_reads}
-use Rattle.sources.proofs.SourceLoops.{NoneYet, any_there, any_found, any_next, any_over}
+use Rattle.sources.proofs.SourceLoops.{any_there, any_found, any_next, any_over}
 use Rattle.sources.proofs.any_dma.Goals as goal
 
 pub loop-k-init : goal.loop-k-init

@@ -1,5 +1,4 @@
 -- The place is the byte of the definition, within the image.
-use mathlib.Core.Path.{◌≡◌}
 use native.Mathlib.Omega.{arith}
 use Rattle.rules.specs.Channels.{list_of}
 use Rattle.channels.proofs.LaidLaws.{Placed, record_placed}

@@ -1,7 +1,5 @@
 -- The code makes the definition's test; a record's DM says whether it has DMA enabled.
 use mathlib.Core.Path.{sym, ap, ◌∙◌}
-use native.Mathlib.Omega.{arith}
-use borrow.Author.Rules.{rules}
 use Rattle.bits.specs.Bits.{bit}
 use Rattle.sources.proofs.SourceReads.{external_reads, record_reads}
 use Rattle.channels.proofs.LaidLaws.{source_placed}

@@ -1,5 +1,4 @@
 -- The code makes the definition's two tests on the two levels.
-use borrow.Author.Rules.{rules}
 use Rattle.rules.specs.Demand3.{outranks}
 use Rattle.sources.proofs.is_outranking.Goals as goal
 

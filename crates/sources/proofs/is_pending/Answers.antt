@@ -1,6 +1,5 @@
 -- Its bit is that of EIPR, or IP.
 use mathlib.Core.Path.{sym, ◌∙◌}
-use borrow.Author.Rules.{rules}
 use Rattle.sources.proofs.SourceReads.{pending-bit}
 use Rattle.sources.proofs.is_pending.Goals as goal
 

@@ -1,5 +1,4 @@
 -- The code makes the definition's two tests.
-use borrow.Author.Rules.{rules}
 use Rattle.rules.specs.Demand3.{rival}
 use Rattle.sources.proofs.is_rival.Goals as goal
 

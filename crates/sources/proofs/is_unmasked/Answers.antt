@@ -1,6 +1,5 @@
 -- Its bit is that of EIMR, or IM.
 use mathlib.Core.Path.{sym, ◌∙◌}
-use borrow.Author.Rules.{rules}
 use Rattle.sources.proofs.SourceReads.{unmasked-bit}
 use Rattle.sources.proofs.is_unmasked.Goals as goal
 

@@ -1,8 +1,6 @@
 -- The code makes the definition's test; an external channel's level is by EIPLR, and a record's is its PRL.
 use mathlib.Core.Path.{sym, ap, ◌∙◌}
 use Prim.Native.Nat.{ℕ, ◌%◌}
-use native.Mathlib.Omega.{arith}
-use borrow.Author.Rules.{rules}
 use Rattle.sources.proofs.SourceReads.{external_reads, record_reads}
 use Rattle.channels.proofs.LaidLaws.{source_placed}
 use Rattle.sources.proofs.level_of.Goals as goal

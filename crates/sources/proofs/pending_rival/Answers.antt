@@ -1,6 +1,5 @@
 -- The code makes the definition's two tests, in the same order.
 use mathlib.Core.Path.{sym, ◌∙◌}
-use borrow.Author.Rules.{rules}
 use Rattle.sources.proofs.pending_rival.Goals as goal
 
 pub returns-then-is_rival : goal.returns-then-is_rival

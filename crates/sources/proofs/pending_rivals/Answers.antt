@@ -1,11 +1,6 @@
-use mathlib.Core.Bool.{◌&&◌}
-use Prim.Native.Nat.{◌-◌}
 use native.Mathlib.Omega.{arith}
-use borrow.Author.Rules.{rules}
-use Rattle.rules.specs.Channels.{list_of}
-use Rattle.rules.specs.Sources.{sources, pending}
-use Rattle.rules.specs.Demand3.{rival, pending_of}
-use Rattle.sources.proofs.SourceLoops.{SoMany, none-counted, counted-there, counted_next, counted-over}
+use Rattle.rules.specs.Demand3.{pending_of}
+use Rattle.sources.proofs.SourceLoops.{none-counted, counted-there, counted_next, counted-over}
 use Rattle.sources.proofs.pending_rivals.Goals as goal
 
 pub loop-k-init : goal.loop-k-init

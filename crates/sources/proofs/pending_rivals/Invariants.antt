@@ -1,12 +1,10 @@
 -- The invariant: n counts the pending rivals below k.
 use mathlib.Core.Bool.{◌&&◌}
 use Prim.Native.Nat.{◌-◌}
-use native.Mathlib.Omega.{arith}
-use borrow.Author.Rules.{rules}
 use Rattle.rules.specs.Channels.{list_of}
 use Rattle.rules.specs.Sources.{sources, pending}
-use Rattle.rules.specs.Demand3.{rival, pending_of}
-use Rattle.sources.proofs.SourceLoops.{SoMany, none-counted, counted-there, counted_next, counted-over}
+use Rattle.rules.specs.Demand3.{rival}
+use Rattle.sources.proofs.SourceLoops.{SoMany}
 use Rattle.sources.proofs.pending_rivals.Given as goal
 
 abbrev pub invariant-loop-k : goal.invariant-loop-k

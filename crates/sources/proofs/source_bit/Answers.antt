@@ -1,7 +1,5 @@
 -- The code makes the definition's test, and looks at the same bit.
 use mathlib.Core.Path.{ap, ◌∙◌}
-use native.Mathlib.Omega.{arith}
-use borrow.Author.Rules.{rules}
 use borrow.Author.Tests.{lt-ltb, le-ltb}
 use Rattle.bits.specs.Bits.{bit}
 use Rattle.channels.proofs.LaidLaws.{source_placed}

@@ -1,9 +1,7 @@
 -- The places have the number of records, twelve at most.
-use mathlib.Core.Path.{◌≡◌}
 use Prim.Native.Nat.{◌≤◌}
 use native.Mathlib.Omega.{arith}
 use lib.ListN.{get_or}
-use borrow.Author.Rules.{rules}
 use Rattle.rules.specs.Channels.{most_records, list_of}
 use Rattle.rules.specs.Sources.{sources}
 use Rattle.rules.proofs.ChannelLaws.{list_short}

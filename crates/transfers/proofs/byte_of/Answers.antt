@@ -1,5 +1,5 @@
 -- A column holds one register of each record.
-use Rattle.std.proofs.Common.{◌+◌, ◌-◌, ◌/◌, get_or, arith, rules}
+use Rattle.std.proofs.Common.{◌+◌, ◌-◌, ◌/◌, get_or, arith}
 use Rattle.rules.specs.Channels.{list_of, record_bytes}
 use Rattle.rules.specs.Sources.{record_of}
 use Rattle.channels.proofs.LaidLaws.{Points, Placed}

@@ -1,5 +1,4 @@
 -- The test of the counter is the definition's, and the memory is not concerned.
-use Rattle.std.proofs.Common.{rules}
 use Rattle.rules.specs.Transfer.{finished}
 use Rattle.transfers.proofs.finish.Goals as goal
 

@@ -1,5 +1,5 @@
 -- The library's wrapping subtraction of one is the definition's addition of 255.
-use Rattle.std.proofs.Common.{arith, rules}
+use Rattle.std.proofs.Common.{arith}
 use Rattle.rules.specs.Transfer.{less_one}
 use Rattle.transfers.proofs.less_one.Goals as goal
 

@@ -1,5 +1,5 @@
 -- The library's wrapping subtraction of one is the definition's addition of 65,535.
-use Rattle.std.proofs.Common.{arith, rules}
+use Rattle.std.proofs.Common.{arith}
 use Rattle.rules.specs.Transfer.{less_one_word}
 use Rattle.transfers.proofs.less_one_word.Goals as goal
 

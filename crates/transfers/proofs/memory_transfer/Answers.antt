@@ -1,5 +1,5 @@
 -- The code makes the definition's tests in its order: each return is one of its laws.
-use Rattle.std.proofs.Common.{◌≡◌, sym, ◌∙◌, inl, inr, rules}
+use Rattle.std.proofs.Common.{◌≡◌, sym, ◌∙◌, inl, inr}
 use Rattle.rules.specs.declared.Channel.{Channel}
 use Rattle.rules.specs.Channels.{list_of}
 use Rattle.rules.specs.Sources.{record_of}

@@ -1,5 +1,5 @@
 -- Each arm is the definition's.
-use Rattle.std.proofs.Common.{sym, ◌∙◌, rules}
+use Rattle.std.proofs.Common.{sym, ◌∙◌}
 use Rattle.rules.specs.Transfer.{moved_byte}
 use Rattle.transfers.proofs.move_byte.Goals as goal
 

@@ -1,5 +1,5 @@
 -- The last column holds the directions.
-use Rattle.std.proofs.Common.{arith, rules}
+use Rattle.std.proofs.Common.{arith}
 use Rattle.transfers.proofs.RecordLaws.{source_record}
 use Rattle.transfers.proofs.moves_in.Goals as goal
 

@@ -1,5 +1,4 @@
 -- The library's wrapping addition is the definition.
-use Rattle.std.proofs.Common.{rules}
 use Rattle.rules.specs.Transfer.{one_more_word}
 use Rattle.transfers.proofs.one_more_word.Goals as goal
 

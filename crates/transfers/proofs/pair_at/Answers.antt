@@ -1,5 +1,5 @@
 -- The code is the contract; half of a byte, doubled, fits a byte.
-use Rattle.std.proofs.Common.{◌<◌, arith, rules}
+use Rattle.std.proofs.Common.{◌<◌, arith}
 use Rattle.rules.specs.Image.{at}
 use Rattle.transfers.proofs.pair_at.Goals as goal
 

@@ -1,5 +1,5 @@
 -- The code is the definition.
-use Rattle.std.proofs.Common.{refl, rules}
+use Rattle.std.proofs.Common.{refl}
 use Rattle.rules.specs.Transfer.{put_word}
 use Rattle.transfers.proofs.put_word.Goals as goal
 

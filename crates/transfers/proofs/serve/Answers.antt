@@ -1,5 +1,4 @@
 -- The code takes the definition's steps in its order: the move, the pair, the end.
-use Rattle.std.proofs.Common.{rules}
 use Rattle.rules.specs.Transfer.{advanced, served}
 use Rattle.transfers.proofs.serve.Goals as goal
 

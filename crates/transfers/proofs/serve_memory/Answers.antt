@@ -1,6 +1,6 @@
 -- The code takes the definition's steps in its order: the move, the two pairs, the end.
 -- by the image after each step: the move, the address pair, the counter pair
-use Rattle.std.proofs.Common.{◌≡◌, ℕ, ap, rules}
+use Rattle.std.proofs.Common.{◌≡◌, ℕ, ap}
 use Rattle.rules.specs.declared.Answer.{Answer}
 use Rattle.rules.specs.declared.Channel.{Channel}
 use Rattle.rules.specs.Image.{Image, Memory}

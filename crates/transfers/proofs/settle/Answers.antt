@@ -1,5 +1,5 @@
 -- Two bits are put at the end of a block, one otherwise; IM is read before.
-use Rattle.std.proofs.Common.{sym, rules}
+use Rattle.std.proofs.Common.{sym}
 use Rattle.rules.specs.Transfer.{settled}
 use Rattle.transfers.proofs.settle.Goals as goal
 

@@ -1,5 +1,5 @@
 -- The code makes the definition's test.
-use Rattle.std.proofs.Common.{sym, ◌∙◌, arith, rules}
+use Rattle.std.proofs.Common.{sym, ◌∙◌, arith}
 use Rattle.rules.proofs.TransferLaws.{with_registers, with-memory}
 use Rattle.transfers.proofs.transfer.Goals as goal
 

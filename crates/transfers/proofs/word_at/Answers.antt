@@ -1,5 +1,5 @@
 -- The code is the definition; two bytes make a number of 16 bits.
-use Rattle.std.proofs.Common.{◌+◌, ◌<◌, refl, arith, rules}
+use Rattle.std.proofs.Common.{◌+◌, ◌<◌, refl, arith}
 use Rattle.rules.specs.Image.{at}
 use Rattle.rules.specs.Transfer.{word_at}
 use Rattle.transfers.proofs.word_at.Goals as goal

@@ -1,5 +1,4 @@
 -- The vector is read first, and the three changes are those of `acknowledged` in its order.
-use borrow.Author.Rules.{rules}
 use Rattle.rules.specs.Arbitration.{acknowledged, granted}
 use Rattle.arbiter.proofs.acknowledgement.acknowledge.Goals as goal
 

@@ -1,7 +1,6 @@
 -- The code makes the definition's test, and puts the same bit; a record's IDCR stands where its place says, in the image.
 use Prim.Native.Nat.{◌-◌}
 use native.Mathlib.Omega.{arith}
-use borrow.Author.Rules.{rules}
 use borrow.Author.Tests.{lt-ltb, le-ltb}
 use Rattle.rules.specs.Channels.{list_of}
 use Rattle.rules.specs.Sources.{pending_bit}

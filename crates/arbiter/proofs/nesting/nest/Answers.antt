@@ -1,7 +1,5 @@
 -- IAM decides as in the definition; `push` and `put_cpl` are the two parts of `nested`.
 use mathlib.Core.Path.{sym, ◌∙◌}
-use borrow.Author.Rules.{rules}
-use borrow.Author.Tests.{not-true, not-false}
 use Rattle.rules.specs.Arbitration.{nested}
 use Rattle.arbiter.proofs.nesting.nest.Goals as goal
 

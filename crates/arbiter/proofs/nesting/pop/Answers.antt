@@ -1,7 +1,6 @@
 -- The level is the restored one, so that the code makes the definition's test and puts the same bit.
 use mathlib.Core.Path.{sym}
 use native.Mathlib.Omega.{arith}
-use borrow.Author.Rules.{rules}
 use borrow.Author.Tests.{lt-ltb, le-ltb}
 use Rattle.rules.specs.Return.{popped}
 use Rattle.arbiter.proofs.nesting.pop.Goals as goal

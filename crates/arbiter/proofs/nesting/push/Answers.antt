@@ -1,6 +1,5 @@
 -- The code makes the definition's test on CPL, and puts the same bit.
 use native.Mathlib.Omega.{arith}
-use borrow.Author.Rules.{rules}
 use borrow.Author.Tests.{le-leb, lt-leb}
 use Rattle.rules.specs.Image.{CPL}
 use Rattle.rules.specs.Arbitration.{pushed}

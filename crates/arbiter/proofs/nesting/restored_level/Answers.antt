@@ -1,6 +1,5 @@
 -- The smallest set HL bit is a count of trailing zeros, and the word that the code makes has the same count.
 use mathlib.Core.Path.{sym, ◌∙◌}
-use borrow.Author.Rules.{rules}
 use mir.Facts.{Fits-lit, Fits-le, Fits-and_r, Fits-or}
 use lib.Count.{trailing_le}
 use Rattle.rules.specs.Image.{at, NICR}

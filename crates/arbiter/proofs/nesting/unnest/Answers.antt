@@ -2,7 +2,6 @@
 use mathlib.Core.Path.{sym, ◌∙◌}
 use native.Mathlib.Omega.{arith}
 use borrow.Author.Rules.{rules}
-use borrow.Author.Tests.{not-true, not-false}
 use Rattle.rules.specs.Return.{unnested}
 use Rattle.rules.proofs.RestoredLaws.{restored_le}
 use Rattle.arbiter.proofs.nesting.unnest.Goals as goal

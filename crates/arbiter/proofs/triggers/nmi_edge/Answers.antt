@@ -1,5 +1,4 @@
 -- The two tests on EIVR are the definition's, and `raise` does what they select to TLIP.
-use borrow.Author.Rules.{rules}
 use borrow.Author.Tests.{lt-ltb, le-ltb}
 use Rattle.rules.specs.Triggers.{trigger_verdict, selects, selects_top, source_effect, raise_source, top_effect, raise_top, fired, trigger_of}
 use Rattle.arbiter.proofs.triggers.nmi_edge.Goals as goal

@@ -5,7 +5,6 @@ use mathlib.Core.Bool.{false, ◌||◌}
 use Prim.Native.Nat.{ℕ, ◌<◌}
 use native.Mathlib.Omega.{arith}
 use lib.Dec.{ltb}
-use borrow.Author.Rules.{rules}
 use borrow.Author.Tests.{ltb-false}
 use Rattle.rules.specs.Triggers.{trigger_verdict, selects, selects_top, top_effect, raise_top, fired, trigger_of}
 use Rattle.rules.proofs.Bools.{or_off}

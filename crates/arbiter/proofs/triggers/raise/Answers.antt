@@ -1,7 +1,5 @@
 -- Not selected, nothing is done; selected, the bit is read before it is set.
 use mathlib.Core.Path.{sym}
-use borrow.Author.Rules.{rules}
-use borrow.Author.Tests.{not-true, not-false}
 use Rattle.arbiter.proofs.triggers.raise.Goals as goal
 
 pub returns-then-not-selected : goal.returns-then-not-selected

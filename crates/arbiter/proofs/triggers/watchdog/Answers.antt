@@ -5,7 +5,6 @@ use mathlib.Core.Logic.{inl}
 use mathlib.Core.Bool.{Bool, true, cond, not}
 use native.Mathlib.Omega.{arith}
 use lib.Dec.{lit<}
-use borrow.Author.Rules.{rules}
 use Rattle.rules.specs.Image.{Image, bit_of, has, put, EIPR, TLIP, IAOS}
 use Rattle.rules.specs.Triggers.{trigger_verdict, selects, selects_top, top_effect, raise_top, fired, trigger_of}
 use Rattle.rules.proofs.Bools.{cond_elim}

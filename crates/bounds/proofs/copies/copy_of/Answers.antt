@@ -1,12 +1,12 @@
 use mathlib.Core.Path.{◌≡◌, refl, sym, ap, ◌∙◌}
 use mathlib.Core.List.{List, [], ◌∷◌, ◌++◌}
-use Prim.Native.Nat.{ℕ, ◌+◌, ◌-◌, ◌≤◌, ◌<◌}
+use Prim.Native.Nat.{ℕ, ◌+◌, ◌≤◌, ◌<◌}
 use native.Mathlib.Omega.{arith}
 use native.Mathlib.Numerals.{add-one}
 use lib.ListN.{length, set, take}
 use lib.Seq.{take-suc, take-suc-set, take_all}
 use borrow.Author.Rules.{rules}
-use Rattle.rules.specs.Image.{Image, image_length, at}
+use Rattle.rules.specs.Image.{Image, at}
 use Rattle.bounds.proofs.copies.copy_of.Goals as goal
 
 one_more : (m image : Image) (i : ℕ) → i < length m → i < length image → take i m ≡ take i image → take (i + 1) (set m i (at image i)) ≡ take (i + 1) image

@@ -1,5 +1,4 @@
 -- Each arm is the definition's.
-use borrow.Author.Rules.{rules}
 use Rattle.bounds.proofs.targets.trigger_target.Goals as goal
 
 pub returns-in-Request : goal.returns-in-Request

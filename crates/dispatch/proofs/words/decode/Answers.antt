@@ -1,5 +1,4 @@
 -- Each arm is the definition's for its kind field; the last has none of the six.
-use borrow.Author.Rules.{rules}
 use Rattle.std.proofs.Common.{arith}
 use Rattle.rules.specs.Encodings.{step_by, decode_of}
 use Rattle.dispatch.proofs.words.decode.Goals as goal

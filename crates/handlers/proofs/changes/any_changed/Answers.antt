@@ -1,12 +1,7 @@
 use mathlib.Core.Path.{refl, sym, ◌∙◌}
-use Prim.Native.Nat.{◌-◌}
 use native.Mathlib.Omega.{arith}
-use borrow.Author.Rules.{rules}
-use Rattle.rules.specs.Channels.{list_of}
-use Rattle.rules.specs.Sources.{sources}
 use Rattle.rules.specs.Bounds.{any_below}
-use Rattle.sources.proofs.SourceLoops.{NoneYet, any_there, any_found, any_next, any_over}
-use Rattle.handlers.specs.Handled.{source_changes}
+use Rattle.sources.proofs.SourceLoops.{any_there, any_found, any_next, any_over}
 use Rattle.handlers.proofs.changes.any_changed.Goals as goal
 
 pub loop-k-init : goal.loop-k-init

@@ -1,12 +1,8 @@
 -- The invariant: no source below k has changed.
-use mathlib.Core.Path.{refl, sym, ◌∙◌}
 use Prim.Native.Nat.{◌-◌}
-use native.Mathlib.Omega.{arith}
-use borrow.Author.Rules.{rules}
 use Rattle.rules.specs.Channels.{list_of}
 use Rattle.rules.specs.Sources.{sources}
-use Rattle.rules.specs.Bounds.{any_below}
-use Rattle.sources.proofs.SourceLoops.{NoneYet, any_there, any_found, any_next, any_over}
+use Rattle.sources.proofs.SourceLoops.{NoneYet}
 use Rattle.handlers.specs.Handled.{source_changes}
 use Rattle.handlers.proofs.changes.any_changed.Given as goal
 

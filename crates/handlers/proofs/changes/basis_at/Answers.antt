@@ -1,7 +1,6 @@
 -- Each by its number; the last is all that is left below seven.
 use mathlib.Core.Path.{◌≡◌}
 use native.Mathlib.Omega.{arith}
-use borrow.Author.Rules.{rules}
 use Rattle.handlers.proofs.changes.basis_at.Goals as goal
 
 pub returns-in_default : goal.returns-in_default

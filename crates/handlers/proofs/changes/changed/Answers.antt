@@ -1,6 +1,5 @@
 -- Each arm is the definition's.
 use Rattle.rules.specs.HandlerBounds.{changes}
-use borrow.Author.Rules.{rules}
 use Rattle.handlers.proofs.changes.changed.Goals as goal
 
 pub returns-in-Pending : goal.returns-in-Pending

@@ -1,17 +1,15 @@
 use mathlib.Core.Path.{◌≡◌, refl, sym, ap, ◌∙◌}
 use mathlib.Core.Bool.{Bool, true, false}
 use mathlib.Core.Option.{none, some}
-use Prim.Native.Nat.{ℕ, ◌+◌, ◌-◌, ◌≤◌, ◌<◌}
+use Prim.Native.Nat.{ℕ, ◌+◌, ◌≤◌, ◌<◌}
 use native.Mathlib.Omega.{arith}
 use native.Mathlib.Numerals.{add-one}
 use lib.ListN.{get_or, drop, drop_of_length-le}
 use lib.Seq.{drop-cons}
-use borrow.Author.Rules.{rules}
 use Rattle.rules.specs.declared.Basis.{Basis}
 use Rattle.rules.specs.declared.Basis.TheVariants as basis
 use Rattle.rules.specs.declared.Bounded.TheVariants as bounded
-use Rattle.rules.specs.Channels.{list_of}
-use Rattle.rules.specs.HandlerBounds.{changes, bases, first_changed}
+use Rattle.rules.specs.HandlerBounds.{bases, first_changed}
 use Rattle.handlers.specs.Handled.{broken}
 use Rattle.handlers.proofs.changes.first_changed.Goals as goal
 
@@ -38,11 +36,10 @@ returns-then-changed c =
     ∙ changed-here _ _ _ _ c.loop-k-test.true c.basis_at-basis.ensures (sym c.changed.ensures ∙ c.if-changed.true)))
 
 pub loop-k-preserved : goal.loop-k-preserved
-loop-k-preserved c =
-    (
-      omega arith,
-      c.loop-k.invariant.1 ∙ not-here _ _ _ _ c.loop-k-test.true c.basis_at-basis.ensures (sym c.changed.ensures ∙ c.if-changed.false),
-    )
+loop-k-preserved c = (
+  omega arith,
+  c.loop-k.invariant.1 ∙ not-here _ _ _ _ c.loop-k-test.true c.basis_at-basis.ensures (sym c.changed.ensures ∙ c.if-changed.false),
+)
 
 pub returns : goal.returns
 returns c = sym (ap broken (c.loop-k.invariant.1 ∙ none_left _ _ _ c.loop-k-test.false))

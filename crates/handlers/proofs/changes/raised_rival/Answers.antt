@@ -4,7 +4,6 @@ use mathlib.Core.Path.{◌≡◌, sym, ◌∙◌}
 use mathlib.Core.Bool.{false}
 use Rattle.rules.specs.Channels.{list_of}
 use Rattle.rules.specs.Sources.{pending}
-use borrow.Author.Rules.{rules}
 use Rattle.handlers.proofs.changes.raised_rival.Goals as goal
 
 pub returns-then-is_pending : goal.returns-then-is_pending

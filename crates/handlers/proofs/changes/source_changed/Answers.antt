@@ -1,5 +1,4 @@
 -- Each arm is the definition's.
-use borrow.Author.Rules.{rules}
 use Rattle.handlers.proofs.changes.source_changed.Goals as goal
 
 pub returns-in-Pending : goal.returns-in-Pending

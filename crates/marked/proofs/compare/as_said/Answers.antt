@@ -1,5 +1,4 @@
 -- Both are the same.
-use borrow.Author.Rules.{rules}
 use Rattle.marked.proofs.compare.as_said.Goals as goal
 
 pub returns : goal.returns

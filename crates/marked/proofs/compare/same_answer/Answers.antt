@@ -1,6 +1,5 @@
 -- The numbers of both are compared.
 use mathlib.Core.Path.{ap₂}
-use borrow.Author.Rules.{rules}
 use Rattle.marked.specs.Passes.{same_numbers}
 use Rattle.marked.proofs.compare.same_answer.Goals as goal
 

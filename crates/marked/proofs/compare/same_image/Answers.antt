@@ -1,10 +1,6 @@
-use mathlib.Core.Path.{◌≡◌, refl, sym, ◌∙◌}
-use Prim.Native.Nat.{◌-◌, ◌≤◌}
+use mathlib.Core.Path.{refl, sym, ◌∙◌}
 use native.Mathlib.Omega.{arith}
-use lib.ListN.{length, drop}
 use borrow.Author.Rules.{rules}
-use Rattle.rules.specs.Image.{image_length}
-use Rattle.marked.specs.Passes.{same_bytes}
 use Rattle.marked.proofs.PassLaws.{byte-same, byte-other, none_left}
 use Rattle.marked.proofs.compare.same_image.Goals as goal
 

@@ -1,12 +1,9 @@
 -- The invariant: the comparison of all is that of the bytes from i on.
-use mathlib.Core.Path.{◌≡◌, refl, sym, ◌∙◌}
+use mathlib.Core.Path.{◌≡◌}
 use Prim.Native.Nat.{◌-◌, ◌≤◌}
-use native.Mathlib.Omega.{arith}
 use lib.ListN.{length, drop}
-use borrow.Author.Rules.{rules}
 use Rattle.rules.specs.Image.{image_length}
 use Rattle.marked.specs.Passes.{same_bytes}
-use Rattle.marked.proofs.PassLaws.{byte-same, byte-other, none_left}
 use Rattle.marked.proofs.compare.same_image.Given as goal
 
 abbrev pub invariant-loop-i : goal.invariant-loop-i

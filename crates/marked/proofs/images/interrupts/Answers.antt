@@ -1,5 +1,4 @@
 -- The bytes are stored in the definition's order.
-use borrow.Author.Rules.{rules}
 use Rattle.rules.specs.Examples.{image}
 use Rattle.marked.proofs.images.interrupts.Goals as goal
 

@@ -1,5 +1,4 @@
 -- Its first 0 records.
-use borrow.Author.Rules.{rules}
 use Rattle.rules.specs.Channels.{list_of}
 use Rattle.marked.proofs.images.none.Goals as goal
 

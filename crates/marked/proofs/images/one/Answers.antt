@@ -1,5 +1,4 @@
 -- Its first record.
-use borrow.Author.Rules.{rules}
 use Rattle.rules.specs.Channels.{list_of}
 use Rattle.marked.proofs.images.one.Goals as goal
 

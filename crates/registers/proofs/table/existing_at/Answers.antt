@@ -1,7 +1,6 @@
 -- The constant is the column of the definition's rows.
 use lib.ListN.{get_or-map}
 use Rattle.rules.specs.Table.{Row, no_row, rows}
-use borrow.Author.Rules.{rules}
 use Rattle.registers.proofs.table.existing_at.Goals as goal
 
 pub returns : goal.returns

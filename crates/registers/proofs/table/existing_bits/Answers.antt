@@ -1,5 +1,4 @@
 -- The code makes the definition's choices in the same order, and `existing_at` gives the row's bits.
-use borrow.Author.Rules.{rules}
 use borrow.Author.Tests.{lt-ltb, le-ltb}
 use Rattle.rules.specs.Table.{existing_bits}
 use Rattle.registers.proofs.table.existing_bits.Goals as goal

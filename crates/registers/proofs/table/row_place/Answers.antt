@@ -1,5 +1,4 @@
 -- The code makes the definition's choice, by the same test.
-use borrow.Author.Rules.{rules}
 use borrow.Author.Tests.{lt-ltb, le-ltb}
 use Rattle.rules.specs.Table.{row_place}
 use Rattle.registers.proofs.table.row_place.Goals as goal

@@ -1,5 +1,4 @@
 -- What `machine::bound` promises of the copy, said of the bytes and told in numbers.
-use borrow.Author.Rules.{rules}
 use Rattle.st9.proofs.PackedPromises.{packed_bounds}
 use Rattle.st9.proofs.exports.st9_bound.Goals as goal
 

@@ -1,5 +1,4 @@
 -- What `machine::run` promises of the copy, said of the bytes and told in numbers.
-use borrow.Author.Rules.{rules}
 use Rattle.rules.specs.Outcomes.{state}
 use Rattle.st9.proofs.PackedPromises.{packed_runs}
 use Rattle.st9.proofs.exports.st9_run.Goals as goal

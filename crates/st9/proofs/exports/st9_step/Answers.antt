@@ -1,5 +1,4 @@
 -- What `machine::perform` promises of the copy, said of the bytes and told in numbers.
-use borrow.Author.Rules.{rules}
 use Rattle.rules.specs.Outcomes.{state}
 use Rattle.st9.proofs.PackedPromises.{packed_does}
 use Rattle.st9.proofs.exports.st9_step.Goals as goal

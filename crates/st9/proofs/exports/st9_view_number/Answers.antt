@@ -1,6 +1,5 @@
 -- The registers' verdict, by its number.
 use mathlib.Core.Path.{ap, ◌∙◌}
-use borrow.Author.Rules.{rules}
 use Rattle.rules.specs.Encodings.{told_verdict}
 use Rattle.st9.proofs.exports.st9_view_number.Goals as goal
 
