@@ -2,7 +2,7 @@
  * The March incident in a C harness: one write to EIPR erases two alarms, and its answer says which. At the fan's edge
  * the fan has no bound, and the answer says which step will erase its alarm.
  *
- *     rt staticlib st9
+ *     tools/staticlib
  *     cc -std=c11 -Iinclude examples/march.c include/st9_text.c target/staticlib/libst9.a -o march && ./march
  *
  *     up to the fan's edge  done: 4 steps, last answer: raised

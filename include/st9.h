@@ -1,6 +1,6 @@
 /*
  * The ST92F150's interrupt and DMA registers: a model that is proved against its rules, for C (from C11 on) and C++
- * (from C++11 on). Link target/staticlib/libst9.a, which `rt staticlib st9` writes; st9_text.c beside this file has the
+ * (from C++11 on). Link target/staticlib/libst9.a, which `tools/staticlib` writes; st9_text.c beside this file has the
  * words: cc -Iinclude fan.c include/st9_text.c target/staticlib/libst9.a. The fan's edge and its acknowledgement:
  *
  *     uint8_t image[ST9_IMAGE_LENGTH] = {0};

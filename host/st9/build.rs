@@ -1,4 +1,4 @@
-//! Links the archive of the proved library, which `rt staticlib st9` writes.
+//! Links the archive of the proved library, which `tools/staticlib` writes.
 
 use std::env;
 use std::path::PathBuf;
@@ -16,7 +16,7 @@ fn main() {
         // A check needs no archive, so this alone is no error: the linker's is.
         println!(
             "cargo:warning=target/staticlib/libst9.a is missing, and without it nothing links: \
-             run `rt staticlib st9` in the repository's root"
+             run `tools/staticlib` in the repository's root"
         );
     }
 }

@@ -23,8 +23,8 @@ const SYSTEM: [&str; 12] = [
 /// Each stub tells its call. That of rt can edit a source while it builds.
 const RT: &str = "#!/bin/sh
 echo \"rt $* in $PWD\" >> \"$CALLS\"
-if [ -n \"$EDIT\" ]; then sleep 0.05; touch crates/source; sleep 0.05; fi
-mkdir -p target/staticlib && touch target/staticlib/libst9.a
+if [ -n \"$EDIT\" ]; then sleep 0.05; touch ../source; sleep 0.05; fi
+mkdir -p out && touch out/libst9_c.a
 ";
 const CARGO: &str = "#!/bin/sh
 echo \"cargo $1 in $PWD\" >> \"$CALLS\"
@@ -40,9 +40,11 @@ done
 const BINARY: &str = "#!/bin/sh\nfor word; do echo \"<$word>\"; done\necho \"$PWD\"\nexit 1\n";
 
 /// None has the name of a source of Rattle: the gate refuses such files outside of the crates.
-const SOURCES: [&str; 9] = [
+const SOURCES: [&str; 11] = [
     "crates.txt",
     "crates/source",
+    "crates/st9_c/src/source",
+    "crates/st9_c/proofs/out/source",
     "host/Cargo.toml",
     "host/Cargo.lock",
     "host/st9/src/lib.rs",
@@ -83,6 +85,8 @@ impl Checkout {
         fs::copy(root().join("st9"), checkout.root.join("st9")).expect("the script");
         let tools = checkout.root.join("tools");
         fs::create_dir(&tools).expect("a folder");
+        let builder = "tools/staticlib";
+        fs::copy(root().join(builder), checkout.root.join(builder)).expect("the script's own");
         for tool in SYSTEM {
             // Not every system has flock, and the script does without.
             if let Some(file) = found(tool) {
@@ -214,24 +218,29 @@ fn found(tool: &str) -> Option<PathBuf> {
 }
 
 const ARGUMENTS: [&str; 3] = ["run", "a b", "*"];
-const BOTH: [&str; 2] = ["rt staticlib st9 in .", "cargo build in ./host"];
+const BOTH: [&str; 2] = ["rt lib in ./crates/st9_c", "cargo build in ./host"];
+const ARCHIVE: &str = "target/staticlib/libst9.a";
 
 #[test]
 fn builds_what_is_missing_or_old() {
     let checkout = Checkout::new("script");
-    let cases: [(&str, &[&str], &[&str]); 7] = [
+    let cases: [(&str, &[&str], &[&str]); 10] = [
         ("nothing is built", &[], &BOTH),
         ("all is fresh", &[], &[]),
         ("the model was edited", &["crates/source"], &BOTH),
         ("the command was edited", &["host/command/src/main.rs"], &BOTH[1..]),
         ("the list was edited", &["crates.txt"], &BOTH),
         ("a new file of the model", &["crates/new source"], &BOTH),
-        ("edited and proved", &["crates/source", "target/staticlib/libst9.a"], &BOTH[1..]),
+        ("edited and proved", &["crates/source", ARCHIVE], &BOTH[1..]),
+        ("the exports were edited", &["crates/st9_c/src/source"], &BOTH),
+        ("rt wrote what it keeps", &["crates/st9_c/out/kept", "crates/st9_c/out/more/kept"], &[]),
+        ("a folder of sources is named so", &["crates/st9_c/proofs/out/source"], &BOTH),
     ];
     for (name, edited, calls) in cases {
         checkout.age();
-        for file in edited {
-            fs::write(checkout.root.join(file), "x").expect("a file");
+        for file in edited.iter().map(|file| checkout.root.join(file)) {
+            fs::create_dir_all(file.parent().expect("a folder")).expect("the folder is made");
+            fs::write(file, "x").expect("a file");
         }
         checkout.runs();
         assert_eq!(checkout.calls(), calls, "{name}");
@@ -348,38 +357,53 @@ fn help_is_the_binarys_once_there_is_one() {
     assert_eq!(checkout.calls(), BOTH[1..]);
 }
 
-/// Needed are st9, middle, lower and base: `io` is no crate of the list, and nothing that st9 needs has `other`.
-const CRATES: &str = "# st9: other
+/// Needed are st9_c, middle, lower and base: `io` is no crate of the list, and nothing that st9_c needs has `other`.
+const CRATES: &str = "# st9_c: other
 base:
 other: base report
 
- st9 : middle base # not other
+ st9_c staticlib : middle base # not: other
 middle: io\tlower base
 lower:base
 report: io
 ";
 
-/// What rt prints of these crates: first what is on its standard error, then what is on its standard output.
+/// What rt prints of these crates: first what the stub has on its standard error, then what is on its standard output. It
+/// prints nothing of base, which is as it was when it was last proved.
 const PRINTED: [&str; 2] = [
-    "fn base::one: proved
-library std: modules loaded=0 checked=0
-logic=proved functions=1 sum=097e4c862dff5811 native=nat,char,string
-rt: base proved (unchanged since it was last proved)
+    "rt: chose --jobs 2 for lower
 note: no function with a body is declared, so nothing was lowered
 enum lower::Place: proved
-rt: lower proved (4 s)
+library base: modules loaded=16 checked=0
+statements std: modules loaded=21 checked=0
+crate lower: modules loaded=0 checked=33
+logic=proved functions=0 sum=dac8208d650f15bf native=nat,char,string incremental=trusted
+rt: chose --jobs 2 for middle
 fn middle::two: proved
-rt: middle proved (28 s)
+library base: modules loaded=16 checked=0
+library lower: modules loaded=16 checked=0
+crate middle: modules loaded=0 checked=33
+logic=proved functions=1 sum=dac8208d650f15bf native=nat,char,string incremental=trusted
 ",
-    "fn st9::read: proved
+    "fn st9_c::st9_step: proved
   a line with blanks and a \\ in it
-rt: target/staticlib/libst9.a has the functions of st9 that are marked #[no_mangle] pub extern \"C\"
+crate st9_c: modules loaded=0 checked=34
+axioms std: none reached of the 2 declared
+logic=proved functions=1 target=x86_64-unknown-linux-gnu sum=dac8208d650f15bf incremental=trusted
 ",
 ];
 
 /// A stub of rt that prints two texts, pauses between them, and ends with the lines given.
 fn printing_rt([first, second]: [&str; 2], end: &str) -> String {
     format!("{RT}cat >&2 <<'END'\n{first}END\n{PAUSE}cat <<'END'\n{second}END\n{end}")
+}
+
+/// A line without the time at its end, which is the machine's.
+fn without_time(line: &str) -> &str {
+    let (line, time) = line.rsplit_once(" (").expect("a time");
+    let seconds = time.strip_suffix(" s)").map(str::parse::<u32>);
+    assert!(matches!(seconds, Some(Ok(_))), "{time}");
+    line
 }
 
 #[test]
@@ -390,23 +414,20 @@ fn says_a_line_a_crate_as_they_are_proved() {
     let mut started = checkout.start();
     assert!(started.line().starts_with("st9: proving and compiling the model"));
     // rt pauses before its end, so these lines come while it runs.
-    for line in [
-        "1 of 4: base proved (unchanged)",
-        "2 of 4: lower proved (4 s)",
-        "3 of 4: middle proved (28 s)",
-    ] {
-        assert_eq!(started.line(), format!("st9: crate {line}"));
+    assert_eq!(started.line(), "st9: crate 1 of 4: base proved (unchanged)");
+    for line in ["2 of 4: lower proved", "3 of 4: middle proved"] {
+        assert_eq!(without_time(&started.line()), format!("st9: crate {line}"));
     }
     checkout.go();
-    let last = started.line();
-    assert!(last.starts_with("st9: crate 4 of 4: st9 proved and compiled ("), "{last}");
+    let last = "st9: crate 4 of 4: st9_c proved and compiled";
+    assert_eq!(without_time(&started.line()), last);
     assert_eq!(started.line(), "st9: compiling the command (cargo build --release)");
     let ran = started.ended();
     assert_eq!(ran.err, "");
     checkout.assert_ran(ran);
     assert_eq!(checkout.calls(), BOTH);
     let log = fs::read_to_string(checkout.root.join(LOG)).expect("the log");
-    assert_eq!(log, PRINTED.concat());
+    assert_eq!(log, format!("{}{ARCHIVE} has the functions for C\n", PRINTED.concat()));
 }
 
 #[test]
@@ -415,8 +436,9 @@ fn a_model_that_is_not_proved_shows_the_end_of_the_log() {
     fs::write(checkout.root.join("crates.txt"), CRATES).expect("the list");
     // Crates that are proved after the one that is not can have more lines than are shown.
     let notes: Vec<_> = (1..=40).map(|number| format!("note: number {number}")).collect();
-    let failed = "base NOT PROVED (exit 1, 2 s)";
-    let printed = format!("rt: {failed}\n{}\n", notes.join("\n"));
+    let failed = "base NOT PROVED";
+    let verdict = "crate base: modules loaded=0 checked=33\nlogic=not-proved";
+    let printed = format!("{verdict}\n{}\n", notes.join("\n"));
     // Its exit status decides, whatever it wrote and printed.
     checkout.set_rt(&printing_rt([&printed, PRINTED[1]], "exit 3\n"));
     checkout.go();
@@ -435,6 +457,7 @@ fn a_model_that_is_not_proved_shows_the_end_of_the_log() {
     assert_eq!(fs::read_to_string(&log).expect("the log"), all);
     assert_eq!(shown, &all.lines().collect::<Vec<_>>()[all.lines().count() - 30..]);
     assert_eq!(checkout.calls(), BOTH[..1]);
+    assert!(!checkout.root.join(ARCHIVE).exists());
 }
 
 #[test]

@@ -68,7 +68,7 @@
 //! the memory does not have, a step of unknown kind. A run that is refused at a step leaves image and memory as the
 //! steps before it did; [`RunError`] and [`WaitError`] have its index.
 //!
-//! The crate links the archive `target/staticlib/libst9.a`, which `rt staticlib st9` writes in the repository's root.
+//! The crate links the archive `target/staticlib/libst9.a`, which `tools/staticlib` writes in the repository's root.
 
 #![deny(missing_docs)]
 #![deny(unsafe_code)]
