@@ -145,6 +145,7 @@ pub fn reset(image: &mut [u8]) -> Answer
 }
 
 // Whether the view of a page is accepted: refused with 1 for the image's length, then with 3 for the page.
+#[tactic(auto, unfolding(rules::specs::Registers::view_verdict))]
 pub fn view_verdict(image: &[u8], page: u32) -> Verdict
     ensures { result ≡ view_verdict image.now page }
 {

@@ -34,11 +34,12 @@ fn readme_is_short() {
     assert_eq!(long, None);
 }
 
-/// The documents of `docs/`, by their paths.
+/// The documents of `docs/`, by their paths. docs/PORT.md is a record of one change, which begins with the commits of it.
 fn documents() -> Vec<String> {
     let files = fs::read_dir(root().join("docs")).expect("docs/");
     let names = files.map(|file| file.expect("a file").file_name().into_string().expect("a name"));
-    names.filter(|name| name.ends_with(".md")).map(|name| format!("docs/{name}")).collect()
+    let names = names.filter(|name| name.ends_with(".md") && name != "PORT.md");
+    names.map(|name| format!("docs/{name}")).collect()
 }
 
 /// Every document is named in README, and opens with whom it is for.

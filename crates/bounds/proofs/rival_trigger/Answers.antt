@@ -1,5 +1,4 @@
 -- The code makes the definition's three tests in the same order.
--- the test is whether the source is there
 use mathlib.Core.Path.{◌≡◌, sym, ◌∙◌}
 use Prim.Native.Nat.{◌<◌}
 use native.Mathlib.Omega.{arith}

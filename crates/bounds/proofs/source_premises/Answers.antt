@@ -1,5 +1,4 @@
 -- The code makes the definition's tests in the same order.
--- ---- what the tests say where they are passed
 use mathlib.Core.Path.{◌≡◌, sym, ◌∙◌}
 use mathlib.Core.Bool.{true}
 use borrow.Author.Tests.{lt-ltb, le-ltb}

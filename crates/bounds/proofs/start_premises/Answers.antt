@@ -1,5 +1,4 @@
 -- The code makes the definitions' tests in the same order; where those on the image and the list hold, the source's decide.
--- ---- what the tests say where they are passed
 use mathlib.Core.Path.{◌≡◌, sym, ap₂, ◌∙◌}
 use mathlib.Core.Bool.{Bool, false, ◌||◌}
 use Rattle.rules.specs.Image.{has, IAM}

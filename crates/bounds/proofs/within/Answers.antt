@@ -1,5 +1,4 @@
 -- H is no more than there are sources, so the sum is a number of the machine's.
--- no more than there are sources
 use Prim.Native.Nat.{◌≤◌}
 use native.Mathlib.Omega.{arith}
 use Rattle.rules.specs.Channels.{list_of}

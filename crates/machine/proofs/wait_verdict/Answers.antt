@@ -1,5 +1,4 @@
 -- Where what is lent is accepted the count is that of the list's records, so the test is the definition's.
--- there are at most twelve records, and eight sources more
 use mathlib.Core.Path.{◌≡◌, sym, ◌∙◌}
 use mathlib.Core.List.{List}
 use Prim.Native.Nat.{◌+◌, ◌≤◌}
@@ -19,6 +18,7 @@ use Rattle.channels.proofs.ItemLaws.{count_short, list_count}
 use Rattle.machine.proofs.LentLaws.{not_accepted}
 use Rattle.machine.proofs.wait_verdict.Goals as goal
 
+-- there are at most twelve records, and eight sources more
 counts : (s : State) (all : Channels) {vs : List Val} → Is S.the_row all vs → lent_verdict s (list_of all) ≡ verdict.Accepted
     → (all.count ≤ most_records) × (sources (list_of all) ≡ 8 + all.count)
 unfolding sources

@@ -50,23 +50,23 @@ unfolding place_of
 returns-then-register-gt255 c = simp (le-ltb _ _ c.if-register-lt240.false, lt-leb _ _ c.if-register-gt255.true)
 
 pub overflow_cast-row : goal.overflow_cast-row
-overflow_cast-row c = omega (arith, c.shared_slice_known-2-1.given PPR)
+overflow_cast-row c = omega (arith, c.type_inv.image PPR)
 
 pub bounds-masks-page : goal.bounds-masks-page
 bounds-masks-page c =
-    omega (arith, c.shared_slice_known-2-1.given PPR)
+    omega (arith, c.type_inv.image PPR)
 
 pub returns-then-row-eq0 : goal.returns-then-row-eq0
 returns-then-row-eq0 c =
-    without-row _ _ _ c.requires.2 (c.shared_slice_known-2-1.given PPR) _ c.if-register-lt240.false (omega arith) _
+    without-row _ _ _ c.requires.2 (c.type_inv.image PPR) _ c.if-register-lt240.false (omega arith) _
     c.if-row-eq0.true c.place_without_row.ensures
 
 pub place_in_row-requires : goal.place_in_row-requires
 place_in_row-requires c =
     let m = c.args.image.now in
-    (c.requires.2.rows (page_of m) (page_high m (c.shared_slice_known-2-1.given PPR)), c.if-register-lt240.false)
+    (c.requires.2.rows (page_of m) (page_high m (c.type_inv.image PPR)), c.if-register-lt240.false)
 
 pub returns : goal.returns
 returns c =
-    with_row _ _ _ c.requires.2 (c.shared_slice_known-2-1.given PPR) _ c.if-register-lt240.false (omega arith) _
+    with_row _ _ _ c.requires.2 (c.type_inv.image PPR) _ c.if-register-lt240.false (omega arith) _
     c.if-row-eq0.false c.place_in_row.ensures

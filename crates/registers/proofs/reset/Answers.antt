@@ -11,6 +11,7 @@ use Rattle.rules.specs.Registers.{reset_byte, reset_row, reset_rows, reset_of}
 use Rattle.rules.proofs.ResetLaws.{row_below}
 use Rattle.registers.proofs.reset.Goals as goal
 
+-- entry k of a column is that of row k
 column-at : (column : List ℕ) (f : Row → ℕ) (k : ℕ) → column ≡ map f rows → get_or column k (f no_row) ≡ f (row_at k)
 column-at column f k e = ap (λ (xs : List ℕ). get_or xs k (f no_row)) e ∙ get_or-map f rows k no_row
 

@@ -1,5 +1,4 @@
 -- The invariant: the first k rows of the table are reset, and the image is as long as before.
--- entry k of a column is that of row k
 use mathlib.Core.Path.{◌≡◌}
 use Prim.Native.Nat.{◌-◌, ◌≤◌}
 use lib.ListN.{length}

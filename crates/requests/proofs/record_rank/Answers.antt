@@ -1,5 +1,4 @@
 -- The code makes the tests of `record_request` and `rank_of` in the same order.
--- past the first test IP is 1, and past the second DM what the branch says
 use mathlib.Core.Path.{◌≡◌, sym, ◌∙◌}
 use mathlib.Core.Bool.{true, false}
 use borrow.Author.Tests.{lt-ltb, le-ltb}
@@ -8,6 +7,7 @@ use Rattle.requests.specs.Ranks.{record_request, rank_of}
 use Rattle.requests.proofs.record_rank.Goals as goal
 use Rattle.requests.proofs.record_rank.Goals.{Else-not-has_bit, Then-has_bit, Else-has_bit}
 
+-- past the first test IP is 1, and past the second DM what the branch says
 pends : (c : Else-not-has_bit) → bit 5 c.args.idcr ≡ true
 pends c = sym c.has_bit.ensures ∙ c.if-not-has_bit.false
 

@@ -1,5 +1,4 @@
 -- The count of the places is the list's; the IDCR of a record that is there stands where its place says, in the image, and `raise` sets its bit.
--- the pending bit of record k
 use mathlib.Core.Path.{◌≡◌}
 use mathlib.Core.List.{List}
 use Prim.Native.Nat.{ℕ, ◌+◌}
@@ -15,6 +14,7 @@ use Rattle.rules.proofs.PendingLaws.{record_of_lem}
 use Rattle.channels.proofs.LaidLaws.{Placed, record_placed}
 use Rattle.arbiter.proofs.triggers.channel_request.Goals as goal
 
+-- the pending bit of record k
 record-pending : (cs : List Channel) (k : ℕ) → pending_bit cs (8 + k) ≡ IP (record_at cs k)
 unfolding pending_bit
 record-pending cs k = rw (le-ltb (8 + k) 8 (omega arith), record_of_lem cs k)

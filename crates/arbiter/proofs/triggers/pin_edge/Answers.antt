@@ -1,5 +1,4 @@
 -- The tests on EITR and EIVR are the definition's, and `raise` does what they select to the pin's bit of EIPR.
--- an accepted pin is one of eight
 use mathlib.Core.Path.{◌≡◌}
 use mathlib.Core.Bool.{false, ◌||◌}
 use Prim.Native.Nat.{ℕ, ◌<◌}
@@ -11,6 +10,7 @@ use Rattle.rules.proofs.Bools.{or_off}
 use Rattle.arbiter.proofs.RaisingLaws.{external_effect, external-raised}
 use Rattle.arbiter.proofs.triggers.pin_edge.Goals as goal
 
+-- an accepted pin is one of eight
 low-pin : (pin direction : ℕ) → (ltb 7 pin || ltb 1 direction) ≡ false → pin < 8
 low-pin pin direction e = omega (arith, ltb-false 7 pin (or_off (ltb 7 pin) (ltb 1 direction) e))
 

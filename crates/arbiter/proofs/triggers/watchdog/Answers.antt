@@ -1,5 +1,4 @@
 -- `raise` does to each of the two bits what the definition says; the first leaves the second as it was.
--- TLIP is no bit of EIPR
 use mathlib.Core.Path.{◌≡◌, refl}
 use mathlib.Core.Logic.{inl}
 use mathlib.Core.Bool.{Bool, true, cond, not}
@@ -12,6 +11,7 @@ use Rattle.rules.proofs.ImageLaws.{has-put_other}
 use Rattle.arbiter.proofs.RaisingLaws.{external_effect, external-raised}
 use Rattle.arbiter.proofs.triggers.watchdog.Goals as goal
 
+-- TLIP is no bit of EIPR
 top-stays : (m : Image) (b : Bool) → has (cond b (put m (bit_of EIPR 0) true) m) TLIP ≡ has m TLIP
 top-stays m b =
     cond_elim (λ i. has i TLIP ≡ has m TLIP) b (λ t. has-put_other m (bit_of EIPR 0) true TLIP (lit< tt) (lit< tt) (inl (λ e. omega arith))) (λ f. refl)

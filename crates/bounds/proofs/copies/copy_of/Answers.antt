@@ -9,6 +9,7 @@ use borrow.Author.Rules.{rules}
 use Rattle.rules.specs.Image.{Image, at}
 use Rattle.bounds.proofs.copies.copy_of.Goals as goal
 
+-- a turn copies one byte more
 one_more : (m image : Image) (i : ℕ) → i < length m → i < length image → take i m ≡ take i image → take (i + 1) (set m i (at image i)) ≡ take (i + 1) image
 one_more m image i h g e =
     rw add-one (take-suc-set m i (at image i) h ∙ ap (λ (r : List ℕ). r ++ (at image i ∷ [])) e ∙ sym (take-suc image i 0 g))

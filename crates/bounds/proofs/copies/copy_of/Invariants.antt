@@ -1,5 +1,4 @@
 -- The invariant: the bytes before i are the image's.
--- a turn copies one byte more
 use mathlib.Core.Path.{◌≡◌}
 use Prim.Native.Nat.{◌-◌, ◌≤◌}
 use lib.ListN.{length, take}

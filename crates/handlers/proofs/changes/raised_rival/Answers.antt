@@ -1,5 +1,4 @@
 -- The code makes the definition's tests in the same order.
--- it was not pending where the first test is passed
 use mathlib.Core.Path.{◌≡◌, sym, ◌∙◌}
 use mathlib.Core.Bool.{false}
 use Rattle.rules.specs.Channels.{list_of}
