@@ -240,7 +240,7 @@ fn c13() -> bool
     writes(m, 247, 0x00, 0x00, m)
 }
 
-// ---- the marks
+// ---- the marks. An error is the stream's: what was printed stands, and the program ends with it.
 
 fn text(rt: HostRuntime, t: &[u8]) -> io::Result<()> {
     rt.stdout().write_all(t)
