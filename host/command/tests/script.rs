@@ -4,15 +4,16 @@
 
 mod support;
 
+use std::env;
 use std::fs::{self, File};
 use std::io::{BufRead, BufReader, Read};
 use std::os::unix::fs::{symlink, PermissionsExt};
 use std::path::{Path, PathBuf};
-use std::process::{Child, ChildStderr, Command, Output, Stdio};
+use std::process::{self, Child, ChildStderr, Command, Output, Stdio};
 use std::sync::{Mutex, MutexGuard, PoisonError};
-use std::thread::sleep;
+use std::thread::{self, sleep};
 use std::time::{Duration, Instant, SystemTime};
-use support::{folder, root, st9, Ran};
+use support::{root, st9, Ran};
 
 /// What the script itself and the stubs call; everything else is a stub or missing.
 const SYSTEM: [&str; 12] = [
@@ -66,11 +67,23 @@ struct Checkout {
     _alone: MutexGuard<'static, ()>,
 }
 
+impl Drop for Checkout {
+    /// What a test that failed has left can be looked at.
+    fn drop(&mut self) {
+        if !thread::panicking() {
+            let _ = fs::remove_dir_all(self.root.parent().expect("the test's folder"));
+        }
+    }
+}
+
 impl Checkout {
-    /// A checkout an hour old, with nothing built, in a folder with a blank in its name.
+    /// A checkout an hour old, with nothing built, in a folder with a blank in its name. It is no folder of the repository:
+    /// `rt ci` refuses a second crates.txt, and links, anywhere in it.
     fn new(name: &str) -> Checkout {
+        let folder = env::temp_dir().join(format!("st9-{}-{name}", process::id()));
+        let _ = fs::remove_dir_all(&folder);
         let checkout = Checkout {
-            root: folder(name).join("a checkout"),
+            root: folder.join("a checkout"),
             _alone: ALONE.lock().unwrap_or_else(PoisonError::into_inner),
         };
         for source in SOURCES {
@@ -212,8 +225,8 @@ fn ran(output: Output) -> Ran {
 }
 
 fn found(tool: &str) -> Option<PathBuf> {
-    let path = std::env::var_os("PATH")?;
-    let mut files = std::env::split_paths(&path).map(|folder| folder.join(tool));
+    let path = env::var_os("PATH")?;
+    let mut files = env::split_paths(&path).map(|folder| folder.join(tool));
     files.find(|file| file.is_file())
 }
 
