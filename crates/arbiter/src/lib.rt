@@ -25,16 +25,21 @@ use transfers::transfer;
 use triggers::{channel_request, nmi_edge, pin_edge, watchdog};
 
 // A trigger: refused with 4 or 7, or answered for the maskable bit and for TLIP.
-pub fn trigger(image: &mut [u8], all: Channels, places: &[u16; PLACES], event: Trigger) -> Answer
+pub fn trigger(
+    image: &mut [u8],
+    all: Channels,
+    places: &[u16; PLACES],
+    event: Trigger,
+) -> Result<Answer, Refusal>
     requires { AcceptedPlaces image.old (list_of all) places.now }
     ensures { outcome result image.new ≡ trigger_of image.old (list_of all) event }
 {
     match event {
         Trigger::Pin { pin, direction } => pin_edge(image, pin, direction),
-        Trigger::Watchdog => watchdog(image),
+        Trigger::Watchdog => Ok(watchdog(image)),
         Trigger::Nmi { direction } => nmi_edge(image, direction),
         Trigger::Request { record } => channel_request(image, all, places, record),
-        Trigger::Unknown => Answer::Refused(Refusal::Kind),
+        Trigger::Unknown => Err(Refusal::Kind),
     }
 }
 
@@ -73,28 +78,28 @@ pub fn arbitrate(
     memory: &mut [u8],
     all: Channels,
     places: &[u16; PLACES],
-) -> Answer
+) -> Result<Answer, Refusal>
     requires { AcceptedPlaces image.old (list_of all) places.now }
     ensures { outcome result (state image.new memory.new) ≡ arbitrate_of (state image.old memory.old) (list_of all) }
 {
     if in_service(image) {
-        return Answer::Nothing;
+        return Ok(Answer::Nothing);
     }
     if top_level(image) {
         enter_top(image);
-        return Answer::TopLevel;
+        return Ok(Answer::TopLevel);
     }
     match winner_of(image, all, places) {
-        Winner::Nobody => Answer::Nothing,
+        Winner::Nobody => Ok(Answer::Nothing),
         Winner::Dma { source } => transfer(image, memory, all, places, source),
-        Winner::Interrupt { source, level } => acknowledge(image, all, places, source, level),
+        Winner::Interrupt { source, level } => Ok(acknowledge(image, all, places, source, level)),
     }
 }
 
 // The return: clears the mark where it is set; else sets IEN and, in nested mode, restores the level.
 pub fn return_from_interrupt(image: &mut [u8]) -> Answer
     requires { length image.old ≡ image_length }
-    ensures { outcome result image.new ≡ return_of image.old }
+    ensures { outcome (Ok result) image.new ≡ return_of image.old }
 {
     if in_service(image) {
         image[MARK] = 0;

@@ -40,23 +40,24 @@ fn edge_matches(direction: u8, rising: bool) -> bool
 }
 
 // A pin edge. Pin 0 counts only with IAOS = 1.
-pub(crate) fn pin_edge(image: &mut [u8], pin: u32, direction: u8) -> Answer
+pub(crate) fn pin_edge(image: &mut [u8], pin: u32, direction: u8) -> Result<Answer, Refusal>
     requires { length image.old ≡ image_length }
     ensures { Fires image.old (Trigger.Pin pin direction) result image.new }
 {
     if (7 < pin) | (1 < direction) {
-        return Answer::Refused(Refusal::Number);
+        return Err(Refusal::Number);
     }
     let k = pin as u8;
     let matches = edge_matches(direction, has_bit(image[EITR], k));
     let selected = matches & ((k != 0) | has_bit(image[EIVR], IAOS));
-    Answer::Triggered(raise(image, EIPR, k, selected), Effect::NotSelected)
+    let effect = raise(image, EIPR, k, selected);
+    Ok(Answer::Triggered(effect, Effect::NotSelected))
 }
 
 // The watchdog's end of count: EIPR bit 0 with IAOS = 0, and TLIP with TLIS = 0.
 pub(crate) fn watchdog(image: &mut [u8]) -> Answer
     requires { length image.old ≡ image_length }
-    ensures { Fires image.old Trigger.Watchdog result image.new }
+    ensures { Fires image.old Trigger.Watchdog (Ok result) image.new }
 {
     let eivr = image[EIVR];
     let maskable = raise(image, EIPR, 0, !has_bit(eivr, IAOS));
@@ -65,16 +66,17 @@ pub(crate) fn watchdog(image: &mut [u8]) -> Answer
 }
 
 // An NMI edge: TLIP with TLIS = 1, where the direction matches TLTEV.
-pub(crate) fn nmi_edge(image: &mut [u8], direction: u8) -> Answer
+pub(crate) fn nmi_edge(image: &mut [u8], direction: u8) -> Result<Answer, Refusal>
     requires { length image.old ≡ image_length }
     ensures { Fires image.old (Trigger.Nmi direction) result image.new }
 {
     if 1 < direction {
-        return Answer::Refused(Refusal::Number);
+        return Err(Refusal::Number);
     }
     let eivr = image[EIVR];
     let selected = has_bit(eivr, TLIS) & edge_matches(direction, has_bit(eivr, TLTEV));
-    Answer::Triggered(Effect::NotSelected, raise(image, CICR, TLIP, selected))
+    let effect = raise(image, CICR, TLIP, selected);
+    Ok(Answer::Triggered(Effect::NotSelected, effect))
 }
 
 // A channel request: IP of the record.
@@ -83,14 +85,15 @@ pub(crate) fn channel_request(
     all: Channels,
     places: &[u16; PLACES],
     number: u32,
-) -> Answer
+) -> Result<Answer, Refusal>
     requires { AcceptedPlaces image.old (list_of all) places.now }
     ensures { FiresIn image.old (list_of all) (Trigger.Request number) result image.new }
 {
     let k = number as usize;
     if (places[COUNT] as usize) <= k {
-        return Answer::Refused(Refusal::Number);
+        return Err(Refusal::Number);
     }
     let at = places[k] as usize;
-    Answer::Triggered(raise(image, at, IP, true), Effect::NotSelected)
+    let effect = raise(image, at, IP, true);
+    Ok(Answer::Triggered(effect, Effect::NotSelected))
 }

@@ -2,64 +2,61 @@
 use mathlib.Core.Path.{◌≡◌, refl, sym, ap, subst, ◌∙◌}
 use mathlib.Core.Bool.{Bool, true, false, cond, not, ◌&&◌, ◌||◌, and-false}
 use mathlib.Core.List.{List, []}
-use mathlib.Core.Option.{Option, none, some}
-use Prim.Native.Nat.{ℕ, ◌+◌, ◌<◌}
+use mathlib.Core.Option.{Option, none, some, or_else}
+use Rattle.std.specs.Prelude.{Err}
+use Rattle.std.specs.declared.option.Option as rust
+use Rattle.std.specs.declared.option.Option.TheVariants.{Some, None}
+use Prim.Native.Nat.{ℕ, ◌+◌}
 use native.Mathlib.Nat.{add-zero, zero-add, add_assoc}
-use native.Mathlib.Omega.{arith}
-use lib.Dec.{eqb, ltb}
-use lib.ListN.{length}
-use borrow.Author.Tests.{lt-ltb, le-ltb}
+use lib.Dec.{eqb}
+use borrow.Author.Tests.{lt-ltb}
 use Rattle.rules.specs.declared.Channel.{Channel}
 use Rattle.rules.specs.declared.Step.{Step}
 use Rattle.rules.specs.declared.Step.TheVariants as step
 use Rattle.rules.specs.declared.Trigger.{Trigger}
 use Rattle.rules.specs.declared.Trigger.TheVariants as trigger
-use Rattle.rules.specs.declared.Answer.{Answer}
-use Rattle.rules.specs.declared.Verdict.TheVariants as verdict
-use Rattle.rules.specs.declared.Bounded.TheVariants as bounded
+use Rattle.rules.specs.declared.NoBound.TheVariants as no_bound
 use Rattle.rules.specs.Image.{Image, bit_of, has, EITR, IAOS, IEN}
 use Rattle.rules.specs.Channels.{list_ok}
-use Rattle.rules.specs.Outcomes.{State, alone, Outcome, outcome, is_refused}
+use Rattle.rules.specs.Outcomes.{State, alone, Outcome, outcome, Answered, accepted, is_refused}
 use Rattle.rules.specs.Sources.{sources, pending}
 use Rattle.rules.specs.Triggers.{edge, trigger_verdict, selects, selects_top, effect_on, source_effect, fired, trigger_of}
 use Rattle.rules.specs.Steps.{act_of}
 use Rattle.rules.specs.Runs.{Event, event_of, history, one_if, counted}
 use Rattle.rules.specs.Demand3.{H, rival, within, triggers, triggers_of}
 use Rattle.rules.specs.Bounds.{first_from, other_step, disabled_step, bound_in}
-use Rattle.rules.proofs.ChannelLaws.{list_short}
 use Rattle.rules.proofs.Verdicts.{verdict_elim}
 use Rattle.rules.proofs.SelectionLaws.{selected-is, selected-there}
 use Rattle.rules.proofs.Bools.{impossible}
-use Rattle.bounds.specs.Followed.{selected, selected_in, no_source, target_by, target_of, first_disabled, steps_answer, followed_from}
+use Rattle.bounds.specs.Followed.{selected, selected_in, target_by, target_of, target_among, first_disabled, found, steps_answer, followed_from}
 use Rattle.dispatch.proofs.NextSteps.{Next, history_next}
 
 -- ---- the source that a step triggered
 
+abbrev found_in : Option ℕ → rust.Option ℕ
+found_in none = None
+found_in (some k) = Some k
+
 -- what a trigger selects is its one target
-selected_target : (m : Image) (t : Trigger) (k : ℕ) → selects m t ≡ some k → target_by t ≡ k
+selected_target : (m : Image) (t : Trigger) (k : ℕ) → selects m t ≡ some k → target_by t ≡ Some k
 unfolding selects
-selected_target m (trigger.Pin k d) s e = selected-is (edge d (has m (bit_of EITR k)) && (not (eqb k 0) || has m IAOS)) k s e
-selected_target m trigger.Watchdog s e = selected-is (not (has m IAOS)) 0 s e
+selected_target m (trigger.Pin k d) s e = ap Some (selected-is (edge d (has m (bit_of EITR k)) && (not (eqb k 0) || has m IAOS)) k s e)
+selected_target m trigger.Watchdog s e = ap Some (selected-is (not (has m IAOS)) 0 s e)
 selected_target m (trigger.Nmi d) s e = impossible (cc)
-selected_target m (trigger.Request k) s e = cc
+selected_target m (trigger.Request k) s e = ap found_in e
 selected_target m trigger.Unknown s e = impossible (cc)
 
 module _ (m : Image) (cs : List Channel) (ok : list_ok cs ≡ true) (among : ℕ → Bool) where
   -- by its answer and its target a step is a trigger of a source of the set
-  abbrev tells : Step → Answer → Bool
-  tells x a = selected_in a && (ltb (target_of x) (sources cs) && among (target_of x))
-
-  -- there is no source past the last
-  none-there : ltb no_source (sources cs) ≡ false
-  unfolding sources
-  none-there = le-ltb no_source (8 + length cs) (omega (arith, list_short cs ok))
+  abbrev tells : Step → Answered → Bool
+  tells x a = selected_in a && target_among cs among (target_of x)
 
   -- a step without a target is none
-  no_target : (a : Answer) → (not (is_refused a) && false) ≡ (selected_in a && (ltb no_source (sources cs) && among no_source))
-  no_target a = rw none-there (and-false (not (is_refused a)) ∙ sym (and-false (selected_in a)))
+  no_target : (a : Answered) → (not (is_refused a) && false) ≡ (selected_in a && false)
+  no_target a = and-false (not (is_refused a)) ∙ sym (and-false (selected_in a))
 
   -- a trigger that is done is of the source that it selects
-  done : (t : Trigger) (o : Option ℕ) → trigger_verdict cs t ≡ verdict.Accepted → selects m t ≡ o
+  done : (t : Trigger) (o : Option ℕ) → trigger_verdict cs t ≡ accepted → selects m t ≡ o
       → within among o ≡ tells (step.Trigger t) (fired m cs o (selects_top m t)).answer
   unfolding fired source_effect
   done t none e f = refl
@@ -73,7 +70,7 @@ module _ (m : Image) (cs : List Channel) (ok : list_ok cs ≡ true) (among : ℕ
   trigger-tells : (t : Trigger) → (not (is_refused (trigger_of m cs t).answer) && within among (selects m t)) ≡ tells (step.Trigger t) (trigger_of m cs t).answer
   unfolding trigger_of fired
   trigger-tells t =
-      verdict_elim (λ (o : Outcome Answer Image). (not (is_refused o.answer) && within among (selects m t)) ≡ tells (step.Trigger t) o.answer) (trigger_verdict cs t)
+      verdict_elim (λ (o : Outcome Answered Image). (not (is_refused o.answer) && within among (selects m t)) ≡ tells (step.Trigger t) o.answer) (trigger_verdict cs t)
       (λ e. done t (selects m t) e refl) (λ r e. refl)
 
   triggers-act : (x : Step) → let o = act_of (alone m) cs x in triggers among (event_of (alone m) x (outcome o.answer o.left)) ≡ tells x o.answer
@@ -87,47 +84,51 @@ module _ (m : Image) (cs : List Channel) (ok : list_ok cs ≡ true) (among : ℕ
   triggers-act step.Unknown = no_target (act_of (alone m) cs step.Unknown).answer
 
   -- of a step that was done
-  pub triggers-told : (x : Step) (a : Answer) (t : State) → outcome a t ≡ act_of (alone m) cs x → triggers among (event_of (alone m) x (outcome a t)) ≡ tells x a
+  pub triggers-told : (x : Step) (a : Answered) (t : State) → outcome a t ≡ act_of (alone m) cs x → triggers among (event_of (alone m) x (outcome a t)) ≡ tells x a
   triggers-told x a t e =
-      subst (λ (o : Outcome Answer State). triggers among (event_of (alone m) x o) ≡ tells x o.answer) (sym e) (triggers-act x)
+      subst (λ (o : Outcome Answered State). triggers among (event_of (alone m) x o) ≡ tells x o.answer) (sym e) (triggers-act x)
 
 -- ---- the loop
 
 -- before the first step nothing is found and nothing is counted
-pub followed-start : (m : Image) (cs : List Channel) (s : ℕ) (es : List Event) (end : ℕ) → bound_in m cs s es ≡ followed_from (rival m cs s) (H m cs s) end 0 end 0 es
-unfolding bound_in followed_from
-followed-start m cs s es end = rw (le-ltb end end (omega arith), zero-add)
+pub followed-start : (m : Image) (cs : List Channel) (s : ℕ) (es : List Event) → bound_in m cs s es ≡ followed_from (rival m cs s) (H m cs s) 0 None 0 es
+unfolding bound_in followed_from or_else
+followed-start m cs s es = rw zero-add
 
-module _ (among : ℕ → Bool) (h end first e : ℕ) where
+module _ (among : ℕ → Bool) (h : ℕ) (first : rust.Option ℕ) (e : ℕ) where
   -- after the last step: what was found, or the bound
-  pub followed_end : (s : State) (cs : List Channel) (n : ℕ) {ys : List Step} → ys ≡ []
-      → followed_from among h end n first e (history s cs ys) ≡ cond (ltb first end) (bounded.InterruptsDisabled first) (bounded.Within h e (h + e + 1))
-  unfolding followed_from history first_from counted
-  followed_end s cs n q = rw (q, add-zero) (go (ltb first end))
+  pub followed_end : (s : State) (cs : List Channel) (n : ℕ) {ys : List Step} → ys ≡ [] → followed_from among h n first e (history s cs ys) ≡ steps_answer none (found first) h e
+  unfolding followed_from history first_from counted or_else
+  followed_end s cs n q = rw (q, add-zero) (go first)
     where
-      go : (b : Bool) → steps_answer none (cond b (some first) none) h e ≡ cond b (bounded.InterruptsDisabled first) (bounded.Within h e (h + e + 1))
-      go true = refl
-      go false = refl
+      go : (first : rust.Option ℕ) → steps_answer none (or_else (found first) none) h e ≡ steps_answer none (found first) h e
+      go None = refl
+      go (Some i) = refl
 
-  module _ {s t : State} {cs : List Channel} {ys xs : List Step} {x : Step} {a : Answer} (next : Next s t cs ys xs x a) (n : ℕ) where
+  module _ {s t : State} {cs : List Channel} {ys xs : List Step} {x : Step} {a : Answered} (next : Next s t cs ys xs x a) (n : ℕ) where
     -- a step of another kind is answered at once
-    pub followed-other : other_step (event_of s x (outcome a t)) ≡ true → followed_from among h end n first e (history s cs ys) ≡ bounded.OtherStep n
+    pub followed-other : other_step (event_of s x (outcome a t)) ≡ true → followed_from among h n first e (history s cs ys) ≡ Err (no_bound.OtherStep n)
     unfolding followed_from first_from
     followed-other o = rw (history_next next, o)
 
     -- else the step's index is kept if it is the first arbitration with interrupts disabled, and the step is counted if it is a trigger of the set
-    pub followed_on : other_step (event_of s x (outcome a t)) ≡ false → n < end
-        → followed_from among h end n first e (history s cs ys)
-        ≡ followed_from among h end (n + 1) (first_disabled first end n x (has s.image IEN)) (e + one_if (triggers among (event_of s x (outcome a t)))) (history t cs xs)
-    unfolding followed_from first_from counted
-    followed_on o l =
+    pub followed_on : other_step (event_of s x (outcome a t)) ≡ false
+        → followed_from among h n first e (history s cs ys)
+        ≡ followed_from among h (n + 1) (first_disabled first n x (has s.image IEN)) (e + one_if (triggers among (event_of s x (outcome a t)))) (history t cs xs)
+    unfolding followed_from first_from counted or_else
+    followed_on o =
         rw (history_next next, o, add_assoc e (one_if (triggers among (event_of s x (outcome a t)))) (triggers_of among (history t cs xs)))
         (ap (λ (i : Option ℕ). steps_answer (first_from (n + 1) other_step (history t cs xs)) i h (e + (one_if (triggers among (event_of s x (outcome a t))) + triggers_of among (history t cs xs))))
-        (go (ltb first end) (disabled_step (event_of s x (outcome a t))) refl))
+        (go first))
       where
-        go : (b d : Bool) → ltb first end ≡ b
-            → cond b (some first) (cond d (some n) (first_from (n + 1) disabled_step (history t cs xs)))
-            ≡ cond (ltb (cond b first (cond d n first)) end) (some (cond b first (cond d n first))) (first_from (n + 1) disabled_step (history t cs xs))
-        go true d q = rw q
-        go false true q = rw (lt-ltb n end l)
-        go false false q = rw q
+        rest : Option ℕ
+        rest = first_from (n + 1) disabled_step (history t cs xs)
+
+        here : (d : Bool) → or_else none (cond d (some n) rest) ≡ or_else (found (cond d (Some n) None)) rest
+        here true = refl
+        here false = refl
+
+        go : (first : rust.Option ℕ)
+            → or_else (found first) (cond (disabled_step (event_of s x (outcome a t))) (some n) rest) ≡ or_else (found (first_disabled first n x (has s.image IEN))) rest
+        go (Some i) = refl
+        go None = here (disabled_step (event_of s x (outcome a t)))

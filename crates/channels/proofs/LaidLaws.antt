@@ -11,7 +11,7 @@ use lib.ListN.{length, get_or, replicate, length-replicate}
 use lib.Seq.{get_or-set_same}
 use borrow.Author.Tests.{ne_eqb, ltb-true, ltb-false}
 use Rattle.rules.specs.declared.Channel.{Channel}
-use Rattle.rules.specs.declared.Place.TheVariants.{Unmodelled}
+use Rattle.std.specs.Prelude.{None}
 use Rattle.rules.specs.Image.{image_length, page_byte, MARK}
 use Rattle.rules.specs.Channels.{most_records, record_at, idcr_byte, ivr_byte, dcpr_byte, dapr_byte, data_byte, list_ok}
 use Rattle.rules.specs.Sources.{sources}
@@ -99,7 +99,7 @@ in_row row r h = omega arith
 
 module _ {cs : List Channel} {masks : List ℕ} (laid : LaidMasks cs masks) (p : ℕ) (hp : p ≤ 63) where
   -- a page without a row has none
-  pub laid_without_row : get_or masks p 0 ≡ 0 → (r : ℕ) → 240 ≤ r → r ≤ 255 → records_place cs p r ≡ Unmodelled
+  pub laid_without_row : get_or masks p 0 ≡ 0 → (r : ℕ) → 240 ≤ r → r ≤ 255 → records_place cs p r ≡ None
   unfolding bits_at
   laid_without_row e r lo hi = laid.place p r hp lo hi ∙ rw e
 

@@ -10,10 +10,10 @@ use lib.Dec.{eqb}
 use lib.ListN.{length}
 use borrow.Author.Tests.{eq-eqb, ne_eqb, eqb-true, le-leb}
 use Rattle.rules.specs.declared.Channel.{Channel}
-use Rattle.rules.specs.declared.Place.TheVariants.{At, Unmodelled}
+use Rattle.std.specs.Prelude.{None}
 use Rattle.rules.specs.Image.{page_byte}
 use Rattle.rules.specs.Channels.{most_records, idcr_byte, ivr_byte, dcpr_byte, dapr_byte, data_byte, record_bytes, record_ok, records_ok, member, distinct, all_bytes, list_ok}
-use Rattle.rules.specs.Registers.{record_place, or_place, records_place}
+use Rattle.rules.specs.Registers.{At, record_place, or_place, records_place}
 use Rattle.rules.proofs.Bools.{and_l, and_r, true_or, not_both, cond_elim}
 use Rattle.rules.proofs.ChannelLaws.{register_number, record_in_range}
 use Rattle.rules.proofs.PlaceLaws.{pairs_apart}
@@ -152,7 +152,7 @@ pair_test p r q t hr ht = go (ℕ_discrete p q) (ℕ_discrete r t)
 
 -- one record and the rest, by the tests
 tests : (page a b c d e : Bool) (i y : ℕ)
-    → or_place (cond page (cond a (At i 0x3f) (cond (b || c || d || e) (At i 0xff) Unmodelled)) Unmodelled) (place_by i y)
+    → or_place (cond page (cond a (At i 0x3f) (cond (b || c || d || e) (At i 0xff) None)) None) (place_by i y)
     ≡ place_by i (cond (page && a) 0x3f (cond (page && b) 0xff (cond (page && c) 0xff (cond (page && d) 0xff (cond (page && e) 0xff y)))))
 tests false a b c d e i y = refl
 tests true true b c d e i y = refl

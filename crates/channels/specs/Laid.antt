@@ -1,14 +1,13 @@
 -- A channel list laid out in two arrays of numbers, as the steps read it: no step looks a record up.
 -- Assumes nothing.
-use Rattle.std.specs.Prelude.{◌≡◌, true, cond, List, ℕ, ◌+◌, ◌-◌, ◌≤◌, ◌<◌, eqb, length, get_or, set, replicate}
+use Rattle.std.specs.Prelude.{◌≡◌, true, cond, List, ℕ, ◌+◌, ◌-◌, ◌≤◌, ◌<◌, eqb, length, get_or, set, replicate, Option, None}
 use Rattle.rules.specs.declared.Channel.{Channel}
 use Rattle.rules.specs.declared.Place.{Place}
-use Rattle.rules.specs.declared.Place.TheVariants.{At, Unmodelled}
 use Rattle.rules.specs.Image.{Image, image_length, Fits, page_byte, MARK}
 use Rattle.rules.specs.Channels.{most_records, record_at, idcr_byte, ivr_byte, dcpr_byte, dapr_byte, data_byte, list_ok}
 use Rattle.rules.specs.Outcomes.{State}
 use Rattle.rules.specs.Sources.{sources}
-use Rattle.rules.specs.Registers.{records_place}
+use Rattle.rules.specs.Registers.{At, records_place}
 
 -- ---- the masks: a number for each page, where its row stands, 0 for none; then twelve rows of sixteen, the bits that exist at R240 to R255 of a page
 
@@ -28,8 +27,8 @@ unfoldable pub bits_at : List ℕ → ℕ → ℕ → ℕ
 bits_at masks p r = cond (eqb (get_or masks p 0) 0) 0 (bits_in masks (get_or masks p 0) r)
 
 -- a place by the bits that exist at a byte
-abbrev pub place_by : ℕ → ℕ → Place
-place_by i existing = cond (eqb existing 0) Unmodelled (At i existing)
+abbrev pub place_by : ℕ → ℕ → Option Place
+place_by i existing = cond (eqb existing 0) None (At i existing)
 
 -- they are the list's: each register of a page goes where the records put it. A row lies within the masks, and page 0 has none.
 pub record LaidMasks (cs : List Channel) (masks : List ℕ) : Type 0 where

@@ -5,13 +5,13 @@ mod words;
 
 ghost use Rattle.std.specs.Prelude.{◌≡◌};
 ghost use Rattle.rules.specs.Channels.{list_of};
-ghost use Rattle.rules.specs.Outcomes.{state, outcome, kind_of, verdict_of, acknowledges};
+ghost use Rattle.rules.specs.Outcomes.{state, outcome, kind_of, acknowledges};
 ghost use Rattle.rules.specs.Steps.{act_of};
 ghost use Rattle.rules.specs.Runs.{is_arbitration, one_if};
 ghost use Rattle.channels.specs.Laid.{AcceptedLaid};
 
 use channels::{MASKS, PLACES};
-use rules::{Answer, AnswerKind, Channels, Refusal, Step, Verdict};
+use rules::{Answer, AnswerKind, Channels, Refusal, Step};
 pub use words::decode;
 
 // One step.
@@ -22,7 +22,7 @@ pub fn act(
     masks: &[u8; MASKS],
     places: &[u16; PLACES],
     step: Step,
-) -> Answer
+) -> Result<Answer, Refusal>
     requires { AcceptedLaid image.old (list_of all) masks.now places.now }
     ensures { outcome result (state image.new memory.new) ≡ act_of (state image.old memory.old) (list_of all) step }
 {
@@ -31,9 +31,9 @@ pub fn act(
         Step::Write(register, value) => registers::write(image, all, masks, register, value),
         Step::Trigger(event) => arbiter::trigger(image, all, places, event),
         Step::Arbitrate => arbiter::arbitrate(image, memory, all, places),
-        Step::Return => arbiter::return_from_interrupt(image),
-        Step::Reset => registers::reset(image),
-        Step::Unknown => Answer::Refused(Refusal::Kind),
+        Step::Return => Ok(arbiter::return_from_interrupt(image)),
+        Step::Reset => Ok(registers::reset(image)),
+        Step::Unknown => Err(Refusal::Kind),
     }
 }
 
@@ -42,36 +42,9 @@ pub fn kind_of(a: Answer) -> AnswerKind
     ensures { result ≡ kind_of a }
 {
     match a {
-        Answer::NoStep => AnswerKind::Plain,
-        Answer::Byte(_) => AnswerKind::Plain,
-        Answer::Written(_) => AnswerKind::Plain,
         Answer::Triggered(maskable, _) => AnswerKind::Triggered(maskable),
-        Answer::Nothing => AnswerKind::Plain,
-        Answer::TopLevel => AnswerKind::Plain,
-        Answer::Interrupt {
-            source,
-            level: _,
-            vector: _,
-        } => AnswerKind::Acknowledged(source),
-        Answer::Transferred {
-            source: _,
-            ended: _,
-        } => AnswerKind::Plain,
-        Answer::Returned => AnswerKind::Plain,
-        Answer::Reset => AnswerKind::Plain,
-        Answer::Refused(r) => AnswerKind::Refused(r),
-    }
-}
-
-// Whether an answer is a refusal, and which.
-pub fn verdict_of(a: Answer) -> Verdict
-    ensures { result ≡ verdict_of a }
-{
-    match kind_of(a) {
-        AnswerKind::Plain => Verdict::Accepted,
-        AnswerKind::Triggered(_) => Verdict::Accepted,
-        AnswerKind::Acknowledged(_) => Verdict::Accepted,
-        AnswerKind::Refused(r) => Verdict::Refused(r),
+        Answer::Interrupt { source, .. } => AnswerKind::Acknowledged(source),
+        _ => AnswerKind::Plain,
     }
 }
 
@@ -79,35 +52,22 @@ pub fn verdict_of(a: Answer) -> Verdict
 pub fn is_arbitration(step: Step) -> bool
     ensures { result ≡ is_arbitration step }
 {
-    match step {
-        Step::Read(_) => false,
-        Step::Write(_, _) => false,
-        Step::Trigger(_) => false,
-        Step::Arbitrate => true,
-        Step::Return => false,
-        Step::Reset => false,
-        Step::Unknown => false,
-    }
+    matches!(step, Step::Arbitrate)
 }
 
 // 1 for an arbitration, else 0.
 pub fn arbitrations(step: Step) -> usize
     ensures { result ≡ one_if (is_arbitration step) }
 {
-    if is_arbitration(step) {
-        return 1;
-    }
-    0
+    usize::from(is_arbitration(step))
 }
 
 // Whether an answer acknowledges a source: as an interrupt, not by DMA.
 pub fn acknowledged(a: Answer, source: u32) -> bool
-    ensures { result ≡ acknowledges source a }
+    ensures { result ≡ acknowledges source (Ok a) }
 {
     match kind_of(a) {
-        AnswerKind::Plain => false,
-        AnswerKind::Triggered(_) => false,
-        AnswerKind::Acknowledged(k) => (k as u32) == source,
-        AnswerKind::Refused(_) => false,
+        AnswerKind::Acknowledged(k) => u32::from(k) == source,
+        _ => false,
     }
 }

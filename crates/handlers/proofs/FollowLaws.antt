@@ -1,9 +1,10 @@
 -- What a step that is followed breaks and counts, and what the next step does to those that the bound follows. Assumes nothing.
+use Rattle.std.specs.Prelude.{Ok, Err}
 use mathlib.Core.Path.{◌≡◌, refl, sym, ap, ◌∙◌}
 use mathlib.Core.Logic.{◌≢◌}
 use mathlib.Core.Bool.{Bool, true, false, false≢true, cond, not, ◌&&◌}
 use mathlib.Core.List.{List, []}
-use mathlib.Core.Option.{Option, none, some, get_or, or_else}
+use mathlib.Core.Option.{Option, none, some, get_or, or_else, map}
 use Prim.Native.Nat.{ℕ, ◌+◌, ◌≤◌, ◌<◌}
 use native.Mathlib.Nat.{add-zero, zero-add}
 use native.Mathlib.Omega.{arith}
@@ -13,29 +14,26 @@ use borrow.Author.Tests.{ltb-true, eq-eqb}
 use Rattle.rules.specs.declared.Channel.{Channel}
 use Rattle.rules.specs.declared.Step.{Step}
 use Rattle.rules.specs.declared.Step.TheVariants as step
-use Rattle.rules.specs.declared.Answer.{Answer}
-use Rattle.rules.specs.declared.Bounded.{Bounded}
-use Rattle.rules.specs.declared.Bounded.TheVariants as bounded
+use Rattle.rules.specs.declared.NoBound.{NoBound}
+use Rattle.rules.specs.declared.NoBound.TheVariants as no_bound
 use Rattle.rules.specs.Image.{Image, image_length, has, CICR, IEN}
 use Rattle.rules.specs.Channels.{most_records, list_ok}
-use Rattle.rules.specs.Outcomes.{State, alone, Outcome, outcome, is_refused}
+use Rattle.rules.specs.Outcomes.{State, alone, Outcome, outcome, Answered, is_refused}
 use Rattle.rules.specs.Registers.{write_of}
 use Rattle.rules.specs.Sources.{sources}
 use Rattle.rules.specs.Steps.{act_of}
 use Rattle.rules.specs.Runs.{Event, event_of, history, until, one_if, counted, is_arbitration, event_acknowledges}
 use Rattle.rules.specs.Demand3.{rival, H, selected_by, triggers}
 use Rattle.rules.specs.Handlers.{is_write, raised, raised_of, up_to}
-use Rattle.rules.specs.Bounds.{bounding}
+use Rattle.rules.specs.Bounds.{bounding, bound_at}
 use Rattle.rules.specs.HandlerBounds.{changes, bases, first_changed, broken_step, broken_by, first_broken, handler_bound_in}
 use Rattle.rules.proofs.Bools.{impossible, and_l, and_r}
 use Rattle.rules.proofs.HandlerWrites.{file_leaves}
 use Rattle.rules.proofs.ChangeLaws.{leaves_unchanged, none_first}
 use Rattle.rules.proofs.Counting.{one_le}
 use Rattle.dispatch.proofs.NextSteps.{Next, history_next}
-use Rattle.bounds.specs.Followed.{rival_triggered}
+use Rattle.bounds.specs.Followed.{Premises, rival_triggered}
 use Rattle.bounds.proofs.FollowedSteps.{triggers-told}
-use Rattle.bounds.specs.declared.Premises.{Premises}
-use Rattle.bounds.specs.declared.Premises.TheVariants as premises
 use Rattle.handlers.specs.declared.Seen.{Seen}
 use Rattle.handlers.specs.Handled.{broken, may_stand, file_write, broken_call, more, Follows, followed_from}
 use Rattle.handlers.proofs.RaisedLaws.{raised-few, raised-none}
@@ -63,7 +61,7 @@ module _ (cs : List Channel) (s : ℕ) (m m' : Image) (i : ℕ) where
   write-breaks step.Reset w = absurd (false≢true w)
   write-breaks step.Unknown w = absurd (false≢true w)
 
-  call_breaks : (x : Step) → is_write x ≡ false → broken (broken_step cs s m x m' i) ≡ cond (may_stand x) premises.Hold (premises.Fail (bounded.OtherStep i))
+  call_breaks : (x : Step) → is_write x ≡ false → broken (broken_step cs s m x m' i) ≡ cond (may_stand x) (Ok tt) (Err (no_bound.OtherStep i))
   unfolding broken_step
   call_breaks (step.Read r) w = refl
   call_breaks (step.Write r v) w = absurd (false≢true (sym w))
@@ -75,7 +73,7 @@ module _ (cs : List Channel) (s : ℕ) (m m' : Image) (i : ℕ) where
 
 -- ---- a step that is followed
 
-module _ (start before after : Image) (cs : List Channel) (s : ℕ) (x : Step) (i : ℕ) (a : Answer)
+module _ (start before after : Image) (cs : List Channel) (s : ℕ) (x : Step) (i : ℕ) (a : Answered)
     (did : outcome a (alone after) ≡ act_of (alone before) cs x) where
   abbrev seen : Premises → ℕ → Seen
   seen b n = record { answer = a; broken = b; more = n }
@@ -92,17 +90,17 @@ module _ (start before after : Image) (cs : List Channel) (s : ℕ) (x : Step) (
       }
 
   -- one that was refused
-  pub follows_refused : is_write x ≡ true → is_refused a ≡ true → Follows start before cs s x i (seen premises.Hold 0) after
+  pub follows_refused : is_write x ≡ true → is_refused a ≡ true → Follows start before cs s x i (seen (Ok tt) 0) after
   unfolding broken_by
   follows_refused w r = record { did = did; breaks = rw ((write-apart x w).0, r); counts = rw (r, w) }
 
   -- one of R0 to R239 but CICR
-  pub follows_file : length before ≡ image_length → list_ok cs ≡ true → s < sources cs → file_write x ≡ true → Follows start before cs s x i (seen premises.Hold 0) after
+  pub follows_file : length before ≡ image_length → list_ok cs ≡ true → s < sources cs → file_write x ≡ true → Follows start before cs s x i (seen (Ok tt) 0) after
   unfolding broken_by broken_step act_of
   follows_file long ok there w = go x w did
     where
       -- whether it is refused or not
-      either : (t : Bool) → premises.Hold ≡ broken (cond t none none)
+      either : (t : Bool) → (Ok tt) ≡ broken (cond t none none)
       either true = refl
       either false = refl
 
@@ -110,12 +108,12 @@ module _ (start before after : Image) (cs : List Channel) (s : ℕ) (x : Step) (
       no_more true = refl
       no_more false = refl
 
-      go : (x : Step) → file_write x ≡ true → outcome a (alone after) ≡ act_of (alone before) cs x → Follows start before cs s x i (seen premises.Hold 0) after
+      go : (x : Step) → file_write x ≡ true → outcome a (alone after) ≡ act_of (alone before) cs x → Follows start before cs s x i (seen (Ok tt) 0) after
       go (step.Read r) w e = absurd (false≢true w)
       go (step.Write r v) w e =
           let low = ltb-true r 240 (and_l (ltb r 240) (not (eqb r CICR)) w) in
           let other : r ≢ CICR = λ q. false≢true (sym (ap not (eq-eqb r CICR q)) ∙ and_r (ltb r 240) (not (eqb r CICR)) w) in
-          let same : after ≡ (write_of before cs r v).left = ap (λ (o : Outcome Answer State). o.left.image) e in
+          let same : after ≡ (write_of before cs r v).left = ap (λ (o : Outcome Answered State). o.left.image) e in
           let none-changed = none_first (changes cs s before (write_of before cs r v).left) i
           (leaves_unchanged cs s before (write_of before cs r v).left (file_leaves before cs s long ok there r v low other)) bases in
           record {
@@ -140,8 +138,8 @@ module _ (start before after : Image) (cs : List Channel) (s : ℕ) (x : Step) (
         counts = rw w (q ∙ ap one_if (sym (triggers-told before cs ok (rival start cs s) x a (alone after) did)) ∙ sym (add-zero _));
       }
     where
-      go : (d r : Bool) → cond d (premises.Fail (bounded.InterruptsDisabled i)) (cond r premises.Hold (cond (may_stand x) premises.Hold (premises.Fail (bounded.OtherStep i))))
-          ≡ broken (cond d (some (bounded.InterruptsDisabled i)) (cond r none (broken_step cs s before x after i)))
+      go : (d r : Bool) → cond d (Err (no_bound.InterruptsDisabled i)) (cond r (Ok tt) (cond (may_stand x) (Ok tt) (Err (no_bound.OtherStep i))))
+          ≡ broken (cond d (some (no_bound.InterruptsDisabled i)) (cond r none (broken_step cs s before x after i)))
       go true r = refl
       go false true = refl
       go false false = sym (call_breaks cs s before after i x w)
@@ -166,7 +164,7 @@ follows_few start before after cs s x i f ok q = omega (arith, q.counts, few x q
         → more cs among (event_of (alone before) x (outcome f.answer (alone after))) ≤ most_records
     few (step.Read r) e = at_most_one (step.Read r) refl
     few (step.Write r v) e =
-        let same : after ≡ (write_of before cs r v).left = ap (λ (o : Outcome Answer State). o.left.image) e in
+        let same : after ≡ (write_of before cs r v).left = ap (λ (o : Outcome Answered State). o.left.image) e in
         rw same (written r v (is_refused f.answer))
     few (step.Trigger t) e = at_most_one (step.Trigger t) refl
     few step.Arbitrate e = at_most_one step.Arbitrate refl
@@ -177,11 +175,11 @@ follows_few start before after cs s x i f ok q = omega (arith, q.counts, few x q
 -- ---- the loop
 
 -- what the code has of what a step breaks, back
-pub broken_some : (o : Option Bounded) (b : Bounded) → broken o ≡ premises.Fail b → o ≡ some b
+pub broken_some : (o : Option NoBound) (b : NoBound) → broken o ≡ (Err b) → o ≡ some b
 broken_some none b e = impossible (cc)
 broken_some (some q) b e = let same : q ≡ b = cc in ap some same
 
-pub broken-none : (o : Option Bounded) → broken o ≡ premises.Hold → o ≡ none
+pub broken-none : (o : Option NoBound) → broken o ≡ (Ok tt) → o ≡ none
 broken-none none e = refl
 broken-none (some q) e = impossible (cc)
 
@@ -192,28 +190,28 @@ followed-start m cs s es = rw zero-add
 
 module _ (cs : List Channel) (source : ℕ) (among : ℕ → Bool) (h e : ℕ) where
   -- after the last step: the bound
-  pub followed_end : (s : State) (n : ℕ) {ys : List Step} → ys ≡ [] → followed_from cs source among h n e (up_to source (history s cs ys)) ≡ bounded.Within h e (h + e + 1)
+  pub followed_end : (s : State) (n : ℕ) {ys : List Step} → ys ≡ [] → followed_from cs source among h n e (up_to source (history s cs ys)) ≡ (Ok (bound_at h e (h + e + 1)))
   unfolding followed_from history until first_broken or_else counted raised_of
   followed_end s n q = rw (q, add-zero)
 
-  module _ {s t : State} {ys xs : List Step} {x : Step} {a : Answer} (next : Next s t cs ys xs x a) (n : ℕ) where
+  module _ {s t : State} {ys xs : List Step} {x : Step} {a : Answered} (next : Next s t cs ys xs x a) (n : ℕ) where
     abbrev event : Event
     event = event_of s x (outcome a t)
 
     -- a step that breaks a premise is answered at once
-    pub followed-broken : (b : Bounded) → broken_by cs source event n ≡ some b → followed_from cs source among h n e (up_to source (history s cs ys)) ≡ b
+    pub followed-broken : (b : NoBound) → broken_by cs source event n ≡ some b → followed_from cs source among h n e (up_to source (history s cs ys)) ≡ Err b
     unfolding followed_from until first_broken or_else
     followed-broken b p = rw (history_next next, p)
 
     module _ (unbroken : broken_by cs source event n ≡ none) where
       -- else what it triggers and raises is counted, and it is the last where it acknowledges ours
       pub followed-last : event_acknowledges source event ≡ true
-          → followed_from cs source among h n e (up_to source (history s cs ys)) ≡ bounded.Within h (e + more cs among event) (h + (e + more cs among event) + 1)
+          → followed_from cs source among h n e (up_to source (history s cs ys)) ≡ (Ok (bound_at h (e + more cs among event) (h + (e + more cs among event) + 1)))
       unfolding followed_from until first_broken or_else counted raised_of
-      followed-last k = rw (history_next next, k, unbroken) (ap (λ (n : ℕ). bounded.Within h n (h + n + 1)) (omega arith))
+      followed-last k = rw (history_next next, k, unbroken) (ap (λ (n : ℕ). (Ok (bound_at h n (h + n + 1)))) (omega arith))
 
       pub followed_on : event_acknowledges source event ≡ false
           → followed_from cs source among h n e (up_to source (history s cs ys))
           ≡ followed_from cs source among h (n + 1) (e + more cs among event) (up_to source (history t cs xs))
       unfolding followed_from until first_broken or_else counted raised_of
-      followed_on k = rw (history_next next, k, unbroken) (ap (λ (e : ℕ). get_or (first_broken cs source (n + 1) (up_to source (history t cs xs))) (bounding h e)) (omega arith))
+      followed_on k = rw (history_next next, k, unbroken) (ap (λ (e : ℕ). get_or (map Err (first_broken cs source (n + 1) (up_to source (history t cs xs)))) (bounding h e)) (omega arith))

@@ -12,7 +12,7 @@ use lib.Seq.{get_or-set_other}
 use borrow.Author.Tests.{ltb-true, ltb-false}
 use Rattle.rules.specs.declared.Channel.{Channel}
 use Rattle.rules.specs.declared.Place.{Place}
-use Rattle.rules.specs.declared.Place.TheVariants.{At, Unmodelled}
+use Rattle.std.specs.Prelude.{Option, Some, None}
 use Rattle.rules.specs.Image.{Image, at, PPR, EIPR, Bit, has}
 use Rattle.rules.specs.Channels.{most_records, list_ok}
 use Rattle.rules.specs.Registers.{place_of, stored_byte, write_at, write_of}
@@ -69,12 +69,15 @@ module _ (m : Image) (cs : List Channel) (ok : list_ok cs ≡ true) (among : ℕ
       count : Image → ℕ
       count m' = count_below (8 + length cs) (raises cs among m m')
 
-      at_place : (q : Place) → count (write_at m q v).left ≤ most_records
-      at_place Unmodelled = omega (arith, below_only _ 0 (8 + length cs) (λ k g l. stays (pending m cs k) (among k)))
-      at_place (At i e) = go (ℕ_discrete EIPR i)
+      at_place : (q : Option Place) → count (write_at m q v).left ≤ most_records
+      at_place None = omega (arith, below_only _ 0 (8 + length cs) (λ k g l. stays (pending m cs k) (among k)))
+      at_place (Some p) = go (ℕ_discrete EIPR i)
         where
+          i : ℕ
+          i = p.byte
+
           new : ℕ
-          new = stored_byte i e (at m i) v
+          new = stored_byte i p.existing (at m i) v
 
           go : Dec (EIPR ≡ i) → count (set m i new) ≤ most_records
           go (yes q) =

@@ -1,26 +1,24 @@
 -- Names for the private functions of the bound over reads and writes and for its loop: what a step breaks, and the steps followed so far. Assumes nothing.
-use Rattle.std.specs.Prelude.{◌≡◌, Bool, true, false, cond, not, ◌&&◌, List, ℕ, ◌+◌, eqb, ltb}
-use Rattle.std.proofs.Math.Option.{Option, none, some, get_or}
+use Rattle.std.specs.Prelude.{◌≡◌, Bool, true, false, cond, not, ◌&&◌, List, ℕ, ◌+◌, eqb, ltb, Ok, Err}
+use Rattle.std.proofs.Math.Option.{Option, none, some, get_or, map}
 use Rattle.rules.specs.declared.Channel.{Channel}
 use Rattle.rules.specs.declared.Step.{Step}
 use Rattle.rules.specs.declared.Step.TheVariants as step
-use Rattle.rules.specs.declared.Answer.{Answer}
 use Rattle.rules.specs.declared.Basis.{Basis}
 use Rattle.rules.specs.declared.Basis.TheVariants as basis
-use Rattle.rules.specs.declared.Bounded.{Bounded}
-use Rattle.rules.specs.declared.Bounded.TheVariants as bounded
+use Rattle.rules.specs.declared.NoBound.{NoBound}
+use Rattle.rules.specs.declared.NoBound.TheVariants as no_bound
 use Rattle.rules.specs.Image.{Image, CICR}
-use Rattle.rules.specs.Outcomes.{alone, outcome, is_refused}
+use Rattle.rules.specs.Outcomes.{alone, outcome, Answered, is_refused}
 use Rattle.rules.specs.Sources.{sources, unmasked, dma_enabled, level}
 use Rattle.rules.specs.Steps.{act_of}
 use Rattle.rules.specs.Runs.{Event, event_of, history, one_if}
 use Rattle.rules.specs.Demand3.{rival, triggers, triggers_of}
 use Rattle.rules.specs.Handlers.{raises, raised, raised_by, raised_of, up_to}
-use Rattle.rules.specs.Bounds.{any_below, bounding}
+use Rattle.rules.specs.Bounds.{any_below, bounding, Bounded}
 use Rattle.rules.specs.Encodings.{steps_of}
 use Rattle.rules.specs.HandlerBounds.{differ, changes, bases, first_changed, broken_by, first_broken, handler_bound_in, accepted_handler_bound}
-use Rattle.bounds.specs.declared.Premises.{Premises}
-use Rattle.bounds.specs.declared.Premises.TheVariants as premises
+use Rattle.bounds.specs.Followed.{Premises}
 use Rattle.handlers.specs.declared.Seen.{Seen}
 
 -- ---- what a write changed
@@ -50,9 +48,9 @@ raised_rivals start cs ours before after = raised cs (rival start cs ours) befor
 -- ---- what a step breaks
 
 -- as the code has it: the premises hold where nothing is broken
-abbrev pub broken : Option Bounded → Premises
-broken none = premises.Hold
-broken (some b) = premises.Fail b
+abbrev pub broken : Option NoBound → Premises
+broken none = Ok tt
+broken (some b) = Err b
 
 -- of a write, by the first of what it changed
 abbrev pub broken_write : List Channel → ℕ → Image → Image → ℕ → Premises
@@ -79,9 +77,9 @@ file_write step.Reset = false
 file_write step.Unknown = false
 
 -- what a step breaks that is no write, by its answer and whether it is an arbitration with interrupts disabled
-abbrev pub broken_call : Step → Answer → Bool → ℕ → Premises
+abbrev pub broken_call : Step → Answered → Bool → ℕ → Premises
 broken_call x a disabled i =
-    cond disabled (premises.Fail (bounded.InterruptsDisabled i)) (cond (is_refused a) premises.Hold (cond (may_stand x) premises.Hold (premises.Fail (bounded.OtherStep i))))
+    cond disabled (Err (no_bound.InterruptsDisabled i)) (cond (is_refused a) (Ok tt) (cond (may_stand x) (Ok tt) (Err (no_bound.OtherStep i))))
 
 -- ---- a step that is followed
 
@@ -100,7 +98,7 @@ pub record Follows (start before : Image) (cs : List Channel) (ours : ℕ) (x : 
 -- what is answered of the events es from step n on, where those before them triggered or raised so many of the set
 unfoldable pub followed_from : List Channel → ℕ → (ℕ → Bool) → ℕ → ℕ → ℕ → List Event → Bounded
 followed_from cs ours among outranking n counted es =
-    get_or (first_broken cs ours n es) (bounding outranking (counted + (triggers_of among es + raised_of cs among es)))
+    get_or (map Err (first_broken cs ours n es)) (bounding outranking (counted + (triggers_of among es + raised_of cs among es)))
 
 -- what is answered of the steps of a list of words until ours is acknowledged
 abbrev pub steps_bound : Image → List Channel → ℕ → List ℕ → Bounded

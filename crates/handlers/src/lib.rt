@@ -14,19 +14,19 @@ ghost use Rattle.channels.specs.Laid.{LaidMasks, LaidPlaces, AcceptedLaidSource}
 ghost use Rattle.handlers.specs.Handled.{may_stand, file_write, broken_call, steps_bound, words_bound, Follows};
 
 use bits::has_bit;
-use bounds::{Premises, copy_of, rival_trigger, start_premises, within};
+use bounds::{copy_of, is_rival_trigger, start_premises, within};
 use changes::{first_changed, raised_rivals};
 use channels::{MASKS, PLACES};
-use dispatch::{acknowledged, decode, is_arbitration, verdict_of};
-use rules::{Answer, Bounded, CICR, Channels, IEN, Step, Verdict};
+use dispatch::{acknowledged, decode, is_arbitration};
+use rules::{Answer, Bound, CICR, Channels, IEN, NoBound, Refusal, Step};
 use runs::perform_alone;
 
 // What a step that was followed answered, whether the premises hold of it, and how many unmasked sources outranking ours it triggered or made pending by a
 // write.
 #[derive(Clone, Copy)]
 pub struct Seen {
-    pub answer: Answer,
-    pub broken: Premises,
+    pub answer: Result<Answer, Refusal>,
+    pub broken: Result<(), NoBound>,
     pub more: usize,
 }
 
@@ -42,30 +42,14 @@ struct StepAt {
 fn may_stand(step: Step) -> bool
     ensures { result ≡ may_stand step }
 {
-    match step {
-        Step::Read(_) => true,
-        Step::Write(_, _) => true,
-        Step::Trigger(_) => true,
-        Step::Arbitrate => true,
-        Step::Return => true,
-        Step::Reset => false,
-        Step::Unknown => false,
-    }
+    !matches!(step, Step::Reset | Step::Unknown)
 }
 
 // Whether a step is a write.
 fn is_write(step: Step) -> bool
     ensures { result ≡ is_write step }
 {
-    match step {
-        Step::Read(_) => false,
-        Step::Write(_, _) => true,
-        Step::Trigger(_) => false,
-        Step::Arbitrate => false,
-        Step::Return => false,
-        Step::Reset => false,
-        Step::Unknown => false,
-    }
+    matches!(step, Step::Write(..))
 }
 
 // Whether a step is a write of R0 to R239 but CICR: nothing that the bound rests on stands there, so nothing is compared.
@@ -73,32 +57,27 @@ fn is_file_write(step: Step) -> bool
     ensures { result ≡ file_write step }
 {
     match step {
-        Step::Read(_) => false,
         Step::Write(register, _) => (register < 240) & ((register as usize) != CICR),
-        Step::Trigger(_) => false,
-        Step::Arbitrate => false,
-        Step::Return => false,
-        Step::Reset => false,
-        Step::Unknown => false,
+        _ => false,
     }
 }
 
 // What a step that is no write breaks, by its answer and whether it is an arbitration with interrupts disabled.
-fn broken_call(step: Step, a: Answer, disabled: bool, index: usize) -> Premises
+fn broken_call(
+    step: Step,
+    a: Result<Answer, Refusal>,
+    disabled: bool,
+    index: usize,
+) -> Result<(), NoBound>
     ensures { result ≡ broken_call step a disabled index }
 {
     if disabled {
-        return Premises::Fail(Bounded::InterruptsDisabled { index });
+        return Err(NoBound::InterruptsDisabled { index });
     }
-    match verdict_of(a) {
-        Verdict::Accepted => {
-            if may_stand(step) {
-                return Premises::Hold;
-            }
-            Premises::Fail(Bounded::OtherStep { index })
-        }
-        Verdict::Refused(_) => Premises::Hold,
+    if a.is_ok() & !may_stand(step) {
+        return Err(NoBound::OtherStep { index });
     }
+    Ok(())
 }
 
 // A write: done on the copy, and held against what was there before.
@@ -115,21 +94,17 @@ fn follow_write(
 {
     let before = copy_of(copy);
     let answer = perform_alone(copy, all, masks, places, at.word);
-    match verdict_of(answer) {
-        Verdict::Accepted => {
-            let broken = first_changed(&before, copy, all, places, at.ours, at.index);
-            let more = raised_rivals(start, &before, copy, all, places, at.ours);
-            Seen {
-                answer,
-                broken,
-                more,
-            }
-        }
-        Verdict::Refused(_) => Seen {
+    if answer.is_err() {
+        return Seen {
             answer,
-            broken: Premises::Hold,
+            broken: Ok(()),
             more: 0,
-        },
+        };
+    }
+    Seen {
+        answer,
+        broken: first_changed(&before, copy, all, places, at.ours, at.index),
+        more: raised_rivals(start, &before, copy, all, places, at.ours),
     }
 }
 
@@ -150,7 +125,7 @@ fn follow(
         let answer = perform_alone(copy, all, masks, places, at.word);
         return Seen {
             answer,
-            broken: Premises::Hold,
+            broken: Ok(()),
             more: 0,
         };
     }
@@ -160,7 +135,7 @@ fn follow(
     let disabled = is_arbitration(step) & !has_bit(copy[CICR], IEN);
     let answer = perform_alone(copy, all, masks, places, at.word);
     let broken = broken_call(step, answer, disabled, at.index);
-    let more = rival_trigger(start, all, places, at.ours, step, answer);
+    let more = usize::from(is_rival_trigger(start, all, places, at.ours, step, answer));
     Seen {
         answer,
         broken,
@@ -176,37 +151,25 @@ fn followed(
     places: &[u16; PLACES],
     source: u32,
     words: &[u64],
-) -> Bounded
+) -> Result<Bound, NoBound>
     requires { AcceptedLaidSource image.now (list_of all) masks.now places.now source }
     ensures { result ≡ steps_bound image.now (list_of all) source words.now }
 {
     let ours = source as usize;
     let mut copy = copy_of(image);
     let mut triggers: usize = 0;
-    let mut done: usize = 0;
-    while done < words.len() {
-        let at = StepAt {
-            ours,
-            word: words[done],
-            index: done,
-        };
-        let f = follow(image, &mut copy, all, masks, places, at);
-        let broken = f.broken;
-        match broken {
-            Premises::Fail(b) => {
-                return b;
-            }
-            Premises::Hold => {
-                triggers += f.more;
-                done += 1;
-                let answer = f.answer;
-                if acknowledged(answer, source) {
-                    return within(image, all, places, ours, triggers);
-                }
+    for (index, &word) in words.iter().enumerate() {
+        let at = StepAt { ours, word, index };
+        let seen = follow(image, &mut copy, all, masks, places, at);
+        seen.broken?;
+        triggers += seen.more;
+        if let Ok(a) = seen.answer {
+            if acknowledged(a, source) {
+                return Ok(within(image, all, places, ours, triggers));
             }
         }
     }
-    within(image, all, places, ours, triggers)
+    Ok(within(image, all, places, ours, triggers))
 }
 
 // The premises on the start, then those on the steps.
@@ -217,12 +180,10 @@ pub fn handler_bound_accepted(
     places: &[u16; PLACES],
     source: u32,
     words: &[u64],
-) -> Bounded
+) -> Result<Bound, NoBound>
     requires { AcceptedLaidSource image.now (list_of all) masks.now places.now source }
     ensures { result ≡ words_bound image.now (list_of all) source words.now }
 {
-    match start_premises(image, all, places, source) {
-        Premises::Hold => followed(image, all, masks, places, source, words),
-        Premises::Fail(b) => b,
-    }
+    start_premises(image, all, places, source)?;
+    followed(image, all, masks, places, source, words)
 }

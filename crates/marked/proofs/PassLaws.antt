@@ -2,18 +2,14 @@
 use mathlib.Core.Path.{◌≡◌, refl, ap, ap₂, ◌∙◌}
 use mathlib.Core.Bool.{Bool, true, false, false≢true, ◌&&◌}
 use mathlib.Core.List.{List, [], ◌∷◌, map}
-use Prim.Native.Nat.{ℕ, ◌+◌, ◌<◌, ◌≤◌}
-use native.Mathlib.Numerals.{add-one}
+use Prim.Native.Nat.{ℕ}
 use lib.Dec.{eqb}
-use lib.ListN.{length, get_or, drop, drop_of_length-le}
-use lib.Seq.{drop-cons}
-use borrow.Author.Tests.{eqb-true, eq-eqb, ne_eqb}
+use borrow.Author.Tests.{eqb-true}
 use Rattle.rules.specs.declared.Channel.{Channel}
 use Rattle.rules.specs.declared.Step.{Step}
-use Rattle.rules.specs.declared.Answer.{Answer}
 use Rattle.rules.specs.declared.Flat.{Flat}
 use Rattle.rules.specs.Image.{Image}
-use Rattle.rules.specs.Outcomes.{State, outcome, alone}
+use Rattle.rules.specs.Outcomes.{State, outcome, alone, Answered}
 use Rattle.rules.specs.Steps.{step_of}
 use Rattle.rules.specs.Runs.{Event, history}
 use Rattle.rules.specs.Encodings.{told}
@@ -24,25 +20,26 @@ use Rattle.rules.proofs.MemoryLaws.{alone-stays}
 use Rattle.rules.proofs.Told.{told-injective}
 use Rattle.marked.specs.Passes.{same_numbers, same_bytes, holds, lines_hold, scenarios_hold}
 
--- ---- bytes are compared one after another
+-- ---- the derived comparison makes the six tests
 
--- one equal byte, one that differs, and the end
-pub byte-same : (a b : Image) (i : ℕ) → i < length a → i < length b → get_or a i 0 ≡ get_or b i 0
-    → same_bytes (drop i a) (drop i b) ≡ same_bytes (drop (i + 1) a) (drop (i + 1) b)
-unfolding same_bytes
-byte-same a b i la lb e = rw (add-one, drop-cons a i 0 la, drop-cons b i 0 lb, eq-eqb (get_or a i 0) (get_or b i 0) e)
+six-tests : (a b c d e f : Bool) → (a && (b && (c && (d && (e && f))))) ≡ (a && b && c && d && e && f)
+six-tests false b c d e f = refl
+six-tests true false c d e f = refl
+six-tests true true false d e f = refl
+six-tests true true true false e f = refl
+six-tests true true true true false f = refl
+six-tests true true true true true f = refl
 
-pub byte-other : (a b : Image) (i : ℕ) → i < length a → i < length b → (get_or a i 0 ≡ get_or b i 0 → ⊥) → same_bytes (drop i a) (drop i b) ≡ false
-unfolding same_bytes
-byte-other a b i la lb e = rw (drop-cons a i 0 la, drop-cons b i 0 lb, ne_eqb (get_or a i 0) (get_or b i 0) e)
-
-pub none_left : (a b : Image) (i : ℕ) → length a ≤ i → length b ≤ i → same_bytes (drop i a) (drop i b) ≡ true
-unfolding same_bytes
-none_left a b i la lb = rw (drop_of_length-le a la, drop_of_length-le b lb)
+pub derived-same : (f g : Flat)
+    → (eqb f.kind g.kind && (eqb f.refusal g.refusal && (eqb f.steps g.steps && (eqb f.first g.first && (eqb f.second g.second && eqb f.third g.third)))))
+    ≡ same_numbers f g
+unfolding same_numbers
+derived-same f g =
+    six-tests (eqb f.kind g.kind) (eqb f.refusal g.refusal) (eqb f.steps g.steps) (eqb f.first g.first) (eqb f.second g.second) (eqb f.third g.third)
 
 -- ---- a step that keeps its promise is compared as `holds` says, for the list ds that the code has as cs
 
-pub compared : (cs ds : List Channel) (m : Image) (x : Step) (a b : Answer) (t : State) (after : Image) → cs ≡ ds → Does (alone m) cs x a t
+pub compared : (cs ds : List Channel) (m : Image) (x : Step) (a b : Answered) (t : State) (after : Image) → cs ≡ ds → Does (alone m) cs x a t
     → (same_numbers (told a) (told b) && same_bytes t.image after) ≡ holds ds m x b after
 unfolding holds
 compared cs ds m x a b t after same (d, e) = rw (d, e, same)
@@ -86,7 +83,7 @@ same_bytes_lem (x ∷ xs) (y ∷ ys) e =
     ap₂ ◌∷◌ (eqb-true x y (and_l (eqb x y) (same_bytes xs ys) e)) (same_bytes_lem xs ys (and_r (eqb x y) (same_bytes xs ys) e))
 
 -- a step answers this and leaves this
-step-held : (cs : List Channel) (m : Image) (x : Step) (b : Answer) (after : Image) → holds cs m x b after ≡ true
+step-held : (cs : List Channel) (m : Image) (x : Step) (b : Answered) (after : Image) → holds cs m x b after ≡ true
     → step_of (alone m) cs x ≡ outcome b (alone after)
 unfolding holds
 step-held cs m x b after e =

@@ -3,10 +3,9 @@
 use Rattle.std.specs.Prelude.{Bool, true, false, ◌&&◌, List, [], ◌∷◌, ℕ, eqb}
 use Rattle.rules.specs.declared.Channel.{Channel}
 use Rattle.rules.specs.declared.Step.{Step}
-use Rattle.rules.specs.declared.Answer.{Answer}
 use Rattle.rules.specs.declared.Flat.{Flat}
 use Rattle.rules.specs.Image.{Image, CICR, EIPR, EIMR, EIPLR, NICR}
-use Rattle.rules.specs.Outcomes.{alone}
+use Rattle.rules.specs.Outcomes.{alone, Answered}
 use Rattle.rules.specs.Steps.{step_of}
 use Rattle.rules.specs.Encodings.{told}
 use Rattle.rules.specs.Examples.{◌↤◌, storing, Line, Scenario, image}
@@ -25,7 +24,7 @@ same_bytes (x ∷ xs) [] = false
 same_bytes (x ∷ xs) (y ∷ ys) = eqb x y && same_bytes xs ys
 
 -- on this list and image, without a memory, a step answers this and leaves this whole image
-unfoldable pub holds : List Channel → Image → Step → Answer → Image → Bool
+unfoldable pub holds : List Channel → Image → Step → Answered → Image → Bool
 holds cs before x answered after =
     let o = step_of (alone before) cs x in
     same_numbers (told o.answer) (told answered) && same_bytes o.left.image after

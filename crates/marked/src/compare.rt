@@ -3,39 +3,28 @@ ghost use Rattle.std.specs.Prelude.{◌≡◌, ◌&&◌};
 ghost use Rattle.rules.specs.Encodings.{told};
 ghost use Rattle.marked.specs.Passes.{same_numbers, same_bytes};
 
-use answers::of_step;
-use rules::{Answer, IMAGE_LENGTH};
+use answers::Tell;
+use rules::{Answer, IMAGE_LENGTH, Refusal};
 
 // Whether two answers are the same.
-fn same_answer(a: Answer, b: Answer) -> bool
+fn same_answer(a: Result<Answer, Refusal>, b: Result<Answer, Refusal>) -> bool
     ensures { result ≡ same_numbers (told a) (told b) }
 {
-    let x = of_step(a);
-    let y = of_step(b);
-    (x.kind == y.kind)
-        & (x.refusal == y.refusal)
-        & (x.steps == y.steps)
-        & (x.first == y.first)
-        & (x.second == y.second)
-        & (x.third == y.third)
+    a.tell() == b.tell()
 }
 
 // Whether two images are the same.
+#[tactic(auto, unfolding(crate::specs::Passes::same_bytes))]
 fn same_image(a: [u8; IMAGE_LENGTH], b: [u8; IMAGE_LENGTH]) -> bool
     ensures { result ≡ same_bytes a b }
 {
-    for i in 0..IMAGE_LENGTH {
-        if a[i] != b[i] {
-            return false;
-        }
-    }
-    true
+    a == b
 }
 
 // Whether the answer and the image are those that are expected.
 pub(crate) fn as_said(
-    a: Answer,
-    answer: Answer,
+    a: Result<Answer, Refusal>,
+    answer: Result<Answer, Refusal>,
     image: [u8; IMAGE_LENGTH],
     after: [u8; IMAGE_LENGTH],
 ) -> bool

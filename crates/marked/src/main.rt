@@ -24,31 +24,31 @@ use std::io::{self, Write};
 fn arbitrates(
     before: [u8; IMAGE_LENGTH],
     all: Channels,
-    answer: Answer,
+    answer: Result<Answer, Refusal>,
     after: [u8; IMAGE_LENGTH],
 ) -> bool
     ensures { result ≡ holds (list_of all) before Step.Arbitrate answer after }
 {
     let mut image = before;
-    let mut none: [u8; 0] = [0; 0];
+    let mut none: [u8; 0] = [];
     let a = machine::arbitrate(&mut image, all, &mut none);
     as_said(a, answer, image, after)
 }
 
 fn returns(before: [u8; IMAGE_LENGTH], after: [u8; IMAGE_LENGTH]) -> bool
-    ensures { result ≡ holds [] before Step.Return Answer.Returned after }
+    ensures { result ≡ holds [] before Step.Return (Ok Answer.Returned) after }
 {
     let mut image = before;
     let a = machine::return_from_interrupt(&mut image, none());
-    as_said(a, Answer::Returned, image, after)
+    as_said(a, Ok(Answer::Returned), image, after)
 }
 
 fn resets(before: [u8; IMAGE_LENGTH], after: [u8; IMAGE_LENGTH]) -> bool
-    ensures { result ≡ holds [] before Step.Reset Answer.Reset after }
+    ensures { result ≡ holds [] before Step.Reset (Ok Answer.Reset) after }
 {
     let mut image = before;
     let a = machine::reset(&mut image, none());
-    as_said(a, Answer::Reset, image, after)
+    as_said(a, Ok(Answer::Reset), image, after)
 }
 
 fn triggers(
@@ -58,16 +58,12 @@ fn triggers(
     effect: Effect,
     after: [u8; IMAGE_LENGTH],
 ) -> bool
-    ensures { result ≡ holds (list_of all) before (Step.Trigger event) (Answer.Triggered effect Effect.NotSelected) after }
+    ensures { result ≡ holds (list_of all) before (Step.Trigger event) (Ok (Answer.Triggered effect Effect.NotSelected)) after }
 {
     let mut image = before;
     let a = machine::trigger(&mut image, all, event);
-    as_said(
-        a,
-        Answer::Triggered(effect, Effect::NotSelected),
-        image,
-        after,
-    )
+    let answer = Ok(Answer::Triggered(effect, Effect::NotSelected));
+    as_said(a, answer, image, after)
 }
 
 fn writes(
@@ -77,11 +73,11 @@ fn writes(
     lost: u8,
     after: [u8; IMAGE_LENGTH],
 ) -> bool
-    ensures { result ≡ holds [] before (Step.Write register value) (Answer.Written (losses lost)) after }
+    ensures { result ≡ holds [] before (Step.Write register value) (Ok (Answer.Written (losses lost))) after }
 {
     let mut image = before;
     let a = machine::write(&mut image, none(), register, value);
-    as_said(a, Answer::Written(Losses { eipr: lost }), image, after)
+    as_said(a, Ok(Answer::Written(Losses { eipr: lost })), image, after)
 }
 
 // An arbitration with no record that answers an interrupt.
@@ -92,26 +88,22 @@ fn acknowledges(
     vector: u8,
     after: [u8; IMAGE_LENGTH],
 ) -> bool
-    ensures { result ≡ holds [] before Step.Arbitrate (Answer.Interrupt source level vector) after }
+    ensures { result ≡ holds [] before Step.Arbitrate (Ok (Answer.Interrupt source level vector)) after }
 {
     let answer = Answer::Interrupt {
         source,
         level,
         vector,
     };
-    arbitrates(before, none(), answer, after)
+    arbitrates(before, none(), Ok(answer), after)
 }
 
 // An arbitration with the one record that answers its transfer.
 fn serves(before: [u8; IMAGE_LENGTH], ended: bool, after: [u8; IMAGE_LENGTH]) -> bool
-    ensures { result ≡ holds (channel ∷ []) before Step.Arbitrate (Answer.Transferred 8 ended) after }
+    ensures { result ≡ holds (channel ∷ []) before Step.Arbitrate (Ok (Answer.Transferred 8 ended)) after }
 {
-    arbitrates(
-        before,
-        one(),
-        Answer::Transferred { source: 8, ended },
-        after,
-    )
+    let answer = Answer::Transferred { source: 8, ended };
+    arbitrates(before, one(), Ok(answer), after)
 }
 
 // ---- the examples
@@ -171,7 +163,7 @@ fn c06() -> bool
     let m = interrupts(0x97, 0x00, 0x80, 0xFF, 0xFF);
     let n = interrupts(0x97, 0x00, 0x40, 0xFF, 0xFF);
     let last = interrupts(0x87, 0x00, 0x00, 0xFF, 0xFF);
-    arbitrates(m, none(), Answer::Nothing, m) & acknowledges(n, 6, 6, 0x4C, last)
+    arbitrates(m, none(), Ok(Answer::Nothing), m) & acknowledges(n, 6, 6, 0x4C, last)
 }
 
 fn c07() -> bool
@@ -180,7 +172,7 @@ fn c07() -> bool
     let m = interrupts(0x92, 0x00, 0x01, 0x01, 0xFD);
     let n = interrupts(0x93, 0x00, 0x01, 0x01, 0xFD);
     let last = interrupts(0x83, 0x00, 0x00, 0x01, 0xFD);
-    arbitrates(m, none(), Answer::Nothing, m) & acknowledges(n, 0, 2, 0x40, last)
+    arbitrates(m, none(), Ok(Answer::Nothing), m) & acknowledges(n, 0, 2, 0x40, last)
 }
 
 fn c08() -> bool
@@ -190,8 +182,8 @@ fn c08() -> bool
     let n = interrupts(0x87, 0x80, 0x00, 0x00, 0x00);
     let in_service = with(n, MARK, 1);
     let all = none();
-    arbitrates(m, all, Answer::TopLevel, in_service)
-        & arbitrates(in_service, all, Answer::Nothing, in_service)
+    arbitrates(m, all, Ok(Answer::TopLevel), in_service)
+        & arbitrates(in_service, all, Ok(Answer::Nothing), in_service)
         & returns(in_service, n)
 }
 
@@ -213,7 +205,7 @@ fn c10() -> bool
     let request = Trigger::Request { record: 0 };
     serves(with_transfer(m, 0x32, 223, 0), false, after)
         & triggers(after, all, request, Effect::Raised, requested)
-        & arbitrates(requested, all, Answer::Refused(Refusal::Pointer), requested)
+        & arbitrates(requested, all, Err(Refusal::Pointer), requested)
 }
 
 fn c11() -> bool

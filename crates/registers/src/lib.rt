@@ -14,56 +14,64 @@ ghost use Rattle.channels.specs.Laid.{bits_in, place_by, AcceptedMasks};
 use channels::{MASKS, page_byte};
 use rules::{
     Answer, Channels, EIPR, IMAGE_LENGTH, Losses, MARK, NICR, PPR, Place, ROW_COUNT, Refusal,
-    Verdict,
 };
 use table::{existing_bits, reset_bytes, reset_masks, row_place};
 
 // Where a register of page 0 goes.
-fn page_zero(register: u8) -> Place
+fn page_zero(register: u8) -> Option<Place>
     ensures { result ≡ page_zero register }
 {
     if register < 242 {
-        return Place::Unmodelled;
+        return None;
     }
     if 247 < register {
-        return Place::Unmodelled;
+        return None;
     }
-    Place::At(page_byte(0, register), existing_bits(register as usize))
+    Some(Place {
+        byte: page_byte(0, register),
+        existing: existing_bits(register as usize),
+    })
 }
 
 // Where a register goes of a page that has no row: page 0 has registers of its own, the others have none.
-fn place_without_row(page: u8, register: u8) -> Place
-    ensures { result ≡ cond (eqb page 0) (page_zero register) Place.Unmodelled }
+fn place_without_row(page: u8, register: u8) -> Option<Place>
+    ensures { result ≡ cond (eqb page 0) (page_zero register) None }
 {
     if page == 0 {
         return page_zero(register);
     }
-    Place::Unmodelled
+    None
 }
 
 // Where it goes of a page that has one: to its byte, if bits exist there.
-fn place_in_row(masks: &[u8; MASKS], row: u8, page: u8, register: u8) -> Place
+fn place_in_row(masks: &[u8; MASKS], row: u8, page: u8, register: u8) -> Option<Place>
     requires { (row ≤ 240) × (240 ≤ register) }
     ensures { result ≡ place_by (page_byte page register) (bits_in masks.now row register) }
 {
-    let bits = masks[(row as usize) + (register as usize) - 240];
-    if bits == 0 {
-        return Place::Unmodelled;
+    let existing = masks[(row as usize) + (register as usize) - 240];
+    if existing == 0 {
+        return None;
     }
-    Place::At(page_byte(page, register), bits)
+    Some(Place {
+        byte: page_byte(page, register),
+        existing,
+    })
 }
 
 // Where a register number goes, with the page that PPR selects.
-fn place_of(image: &[u8], all: Channels, masks: &[u8; MASKS], register: u32) -> Place
+fn place_of(image: &[u8], all: Channels, masks: &[u8; MASKS], register: u32) -> Option<Place>
     requires { AcceptedMasks image.now (list_of all) masks.now }
     ensures { result ≡ place_of image.now (list_of all) register }
 {
     if register < 240 {
-        let i = register as usize;
-        return Place::At(i, existing_bits(i));
+        let byte = register as usize;
+        return Some(Place {
+            byte,
+            existing: existing_bits(byte),
+        });
     }
     if 255 < register {
-        return Place::Unmodelled;
+        return None;
     }
     let r = register as u8;
     let page = image[PPR] / 4;
@@ -75,14 +83,17 @@ fn place_of(image: &[u8], all: Channels, masks: &[u8; MASKS], register: u32) -> 
 }
 
 // Reads a register: the stored byte with absent bits as 0.
-pub fn read(image: &[u8], all: Channels, masks: &[u8; MASKS], register: u32) -> Answer
+pub fn read(
+    image: &[u8],
+    all: Channels,
+    masks: &[u8; MASKS],
+    register: u32,
+) -> Result<Answer, Refusal>
     requires { AcceptedMasks image.now (list_of all) masks.now }
     ensures { result ≡ read_of image.now (list_of all) register }
 {
-    match place_of(image, all, masks, register) {
-        Place::At(i, e) => Answer::Byte(image[i] & e),
-        Place::Unmodelled => Answer::Refused(Refusal::Register),
-    }
+    let place = place_of(image, all, masks, register).ok_or(Refusal::Register)?;
+    Ok(Answer::Byte(image[place.byte] & place.existing))
 }
 
 // The byte that a write of `value` over `old` stores: the existing bits and 0 in the absent ones; TLNM can be set and not cleared.
@@ -112,27 +123,23 @@ pub fn write(
     masks: &[u8; MASKS],
     register: u32,
     value: u8,
-) -> Answer
+) -> Result<Answer, Refusal>
     requires { AcceptedMasks image.old (list_of all) masks.now }
     ensures { outcome result image.new ≡ write_of image.old (list_of all) register value }
 {
-    match place_of(image, all, masks, register) {
-        Place::At(i, e) => {
-            let old = image[i];
-            let new = stored_byte(i, e, old, value);
-            image[i] = new;
-            Answer::Written(Losses {
-                eipr: lost_bits(i, old, new),
-            })
-        }
-        Place::Unmodelled => Answer::Refused(Refusal::Register),
-    }
+    let place = place_of(image, all, masks, register).ok_or(Refusal::Register)?;
+    let old = image[place.byte];
+    let new = stored_byte(place.byte, place.existing, old, value);
+    image[place.byte] = new;
+    Ok(Answer::Written(Losses {
+        eipr: lost_bits(place.byte, old, new),
+    }))
 }
 
 // Resets the registers of the table, and clears the mark.
 pub fn reset(image: &mut [u8]) -> Answer
     requires { length image.old ≡ image_length }
-    ensures { outcome result image.new ≡ reset_of image.old }
+    ensures { outcome (Ok result) image.new ≡ reset_of image.old }
 {
     let masks = reset_masks();
     let bytes = reset_bytes();
@@ -146,16 +153,16 @@ pub fn reset(image: &mut [u8]) -> Answer
 
 // Whether the view of a page is accepted: refused with 1 for the image's length, then with 3 for the page.
 #[tactic(auto, unfolding(rules::specs::Registers::view_verdict))]
-pub fn view_verdict(image: &[u8], page: u32) -> Verdict
+pub fn view_verdict(image: &[u8], page: u32) -> Result<(), Refusal>
     ensures { result ≡ view_verdict image.now page }
 {
     if image.len() != IMAGE_LENGTH {
-        return Verdict::Refused(Refusal::Length);
+        return Err(Refusal::Length);
     }
     if 63 < page {
-        return Verdict::Refused(Refusal::Register);
+        return Err(Refusal::Register);
     }
-    Verdict::Accepted
+    Ok(())
 }
 
 // The sixteen bytes of a page, as stored: a part of the image, empty where the view is refused.
@@ -163,11 +170,11 @@ pub fn view(image: &[u8], page: u32) -> &[u8]
     ensures { Views image.now page result.now }
 {
     match view_verdict(image, page) {
-        Verdict::Accepted => {
+        Ok(()) => {
             let start = 240 + 16 * (page as usize);
             let end = start + 16;
             &image[start..end]
         }
-        Verdict::Refused(_) => &image[..0],
+        Err(_) => &image[..0],
     }
 }

@@ -9,9 +9,8 @@ use Rattle.rules.specs.declared.Step.{Step}
 use Rattle.rules.specs.declared.Step.TheVariants as step
 use Rattle.rules.specs.declared.Winner.{Winner}
 use Rattle.rules.specs.declared.Winner.TheVariants as winner
-use Rattle.rules.specs.declared.Answer.{Answer}
 use Rattle.rules.specs.Image.{Image, Memory, Fits}
-use Rattle.rules.specs.Outcomes.{State, state, Outcome, outcome}
+use Rattle.rules.specs.Outcomes.{State, state, Outcome, outcome, Answered}
 use Rattle.rules.specs.Requests.{winner_of}
 use Rattle.rules.specs.Arbitration.{granted}
 use Rattle.rules.specs.Steps.{act_of, step_of}
@@ -24,7 +23,7 @@ use Rattle.rules.proofs.Effects.{arbitration_grants, step_same}
 use Rattle.rules.proofs.Wait.{calm-same}
 
 -- the same outcome with another memory, and the same event
-abbrev pub lent_outcome : Memory → Outcome Answer State → Outcome Answer State
+abbrev pub lent_outcome : Memory → Outcome Answered State → Outcome Answered State
 lent_outcome memory o = outcome o.answer (state o.left.image memory)
 
 abbrev pub lent_event : Memory → Event → Event
@@ -64,7 +63,7 @@ module _ (cs : List Channel) (ours : ℕ) (one other : Memory) (fits : Fits one)
   history-apart [] m a c = refl
   history-apart (x ∷ xs) m a c = rw (step-apart m cs a one other fits fits' x, same e) (ap (λ (es : List Event). lent_event other e ∷ es) (go (p e) c.1 (history-apart xs m')))
     where
-      o : Outcome Answer State
+      o : Outcome Answered State
       o = step_of (state m one) cs x
 
       e : Event
@@ -75,7 +74,7 @@ module _ (cs : List Channel) (ours : ℕ) (one other : Memory) (fits : Fits one)
 
       -- the memory stays
       kept : o.left ≡ state m' one
-      kept = ap (λ (r : Outcome Answer State). r.left) (step-apart m cs a one one fits fits x)
+      kept = ap (λ (r : Outcome Answered State). r.left) (step-apart m cs a one one fits fits x)
 
       go : (b : Bool) → AllMay cs ours (cond b [] (until p (history o.left cs xs)))
           → (Calm m' cs → AllMay cs ours (until p (history (state m' one) cs xs))

@@ -1,4 +1,5 @@
 -- Demand 3's bound as a function: a bound is answered exactly where the premises hold, and a wait report on the same data keeps it. Assumes nothing.
+use Rattle.std.specs.Prelude.{Ok, Err}
 use mathlib.Core.Path.{◌≡◌, refl, sym, ap, ◌∙◌, subst}
 use mathlib.Core.List.{List, [], ◌∷◌, map}
 use mathlib.Core.Bool.{false, not}
@@ -9,16 +10,13 @@ use lib.Dec.{lit≤}
 use borrow.Author.Tests.{not-true, lt-ltb}
 use Rattle.rules.specs.declared.Channel.{Channel}
 use Rattle.rules.specs.declared.Step.{Step}
-use Rattle.rules.specs.declared.Waited.{Waited}
-use Rattle.rules.specs.declared.Bounded.{Bounded}
-use Rattle.rules.specs.declared.Bounded.TheVariants as bounded
 use Rattle.rules.specs.Image.{Image, Memory, Fits, has, CPL, IEN}
 use Rattle.rules.specs.Outcomes.{State, state, alone}
 use Rattle.rules.specs.Sources.{sources, pending, dma_enabled, level}
-use Rattle.rules.specs.Runs.{Event, history, any_event, event_refused, is_arbitration, event_acknowledges, wait_of}
+use Rattle.rules.specs.Runs.{Event, history, any_event, event_refused, is_arbitration, event_acknowledges, wait_of, Waited}
 use Rattle.rules.specs.Demand3.{H, E, Start, is_call, OnlyCalls, rival}
 use Rattle.rules.specs.Claims.{WaitWithin}
-use Rattle.rules.specs.Bounds.{calm_premises, source_premises, start_premises, other_step, disabled_step, first_from, bound_in, bound_of, where_bounded, BoundSays, WaitInBound}
+use Rattle.rules.specs.Bounds.{calm_premises, source_premises, start_premises, other_step, disabled_step, first_from, bound_in, bound_of, where_bounded, BoundSays, WaitInBound, Bounded, bound_at}
 use Rattle.rules.specs.Encodings.{steps_of, told_bound}
 use Rattle.rules.specs.Promises.{Waits, BoundWaits}
 use Rattle.rules.proofs.Bools.{implied, implies, or_off, or_off_r}
@@ -40,23 +38,13 @@ Given b = where_bounded (λ h e k. Unit {0}) ⊥ b
 
 -- by whether one is
 pub where_elim : (P : ℕ → ℕ → ℕ → Type 0) (Q : Type 0) (b : Bounded)
-    → ((h e k : ℕ) → b ≡ bounded.Within h e k → P h e k) → ((Given b → ⊥) → Q) → where_bounded P Q b
-where_elim P Q (bounded.Refused r) p q = q (λ z. z)
-where_elim P Q bounded.Nested p q = q (λ z. z)
-where_elim P Q bounded.DmaEnabled p q = q (λ z. z)
-where_elim P Q bounded.TopLevelEnabled p q = q (λ z. z)
-where_elim P Q bounded.TopLevelInService p q = q (λ z. z)
-where_elim P Q bounded.NotPending p q = q (λ z. z)
-where_elim P Q bounded.Masked p q = q (λ z. z)
-where_elim P Q bounded.LevelNotAbove p q = q (λ z. z)
-where_elim P Q (bounded.OtherStep i) p q = q (λ z. z)
-where_elim P Q (bounded.Changed a i) p q = q (λ z. z)
-where_elim P Q (bounded.InterruptsDisabled i) p q = q (λ z. z)
-where_elim P Q (bounded.Within h e k) p q = p h e k refl
+    → ((h e k : ℕ) → b ≡ (Ok (bound_at h e k)) → P h e k) → ((Given b → ⊥) → Q) → where_bounded P Q b
+where_elim P Q (Ok g) p q = p g.outranking g.triggers g.bound refl
+where_elim P Q (Err r) p q = q (λ z. z)
 
 -- with premises A and C that give the bound of H and E, and that hold where one is given: it is given exactly where they hold
-pub exactly_where : (A C : Type 0) (h₀ e₀ : ℕ) (b : Bounded) → (A → C → b ≡ bounded.Within h₀ e₀ (h₀ + e₀ + 1))
-    → ((h e k : ℕ) → b ≡ bounded.Within h e k → A × C)
+pub exactly_where : (A C : Type 0) (h₀ e₀ : ℕ) (b : Bounded) → (A → C → b ≡ (Ok (bound_at h₀ e₀ (h₀ + e₀ + 1))))
+    → ((h e k : ℕ) → b ≡ (Ok (bound_at h e k)) → A × C)
     → where_bounded (λ h e k. A × C × (h ≡ h₀) × (e ≡ e₀) × (k ≡ h + e + 1)) (A → C → ⊥) b
 exactly_where A C h₀ e₀ b gives holds =
     where_elim _ _ b
@@ -113,14 +101,14 @@ module _ (m : Image) (cs : List Channel) (s : ℕ) (xs : List Step) where
   events = history (alone m) cs xs
 
   -- with all of them the bound is H + E + 1
-  pub bound-given : Start m cs s → OnlyCalls events → bound_of m cs s xs ≡ bounded.Within (H m cs s) (E m cs s events) (H m cs s + E m cs s events + 1)
+  pub bound-given : Start m cs s → OnlyCalls events → bound_of m cs s xs ≡ (Ok (bound_at (H m cs s) (E m cs s events) (H m cs s + E m cs s events + 1)))
   unfolding bound_of bound_in
   bound-given a c =
       rw (wait-accepted (alone m) cs s (lent-accepted (alone m) cs a.calm.long a.calm.listed (lit≤ tt)) a.there)
       (start-kept m cs s (bound_in m cs s events) a ∙ rw ((calls_none 0 events c).0, (calls_none 0 events c).1))
 
   -- and with a bound they hold
-  given_premises : (h e k : ℕ) → bound_of m cs s xs ≡ bounded.Within h e k → Start m cs s × OnlyCalls events
+  given_premises : (h e k : ℕ) → bound_of m cs s xs ≡ (Ok (bound_at h e k)) → Start m cs s × OnlyCalls events
   given_premises h e k q =
       let f = subst (Failing m cs s events) q (first-failing m cs s xs) in
       (above-start m cs s f.0, none_calls events f.1.0 f.1.1)
@@ -141,7 +129,7 @@ module _ (m : Image) (cs : List Channel) (s : ℕ) (xs : List Step) where
       exactly_where (Start m cs s) (OnlyCalls (history (state m memory) cs xs)) (H m cs s) (E m cs s (history (state m memory) cs xs)) (bound_of m cs s xs)
       (λ a c.
       let q = calls_same memory [] fits (lit≤ tt) a c in
-      bound-given a q.0 ∙ ap (λ (e : ℕ). bounded.Within (H m cs s) e (H m cs s + e + 1)) q.1)
+      bound-given a q.0 ∙ ap (λ (e : ℕ). (Ok (bound_at (H m cs s) e (H m cs s + e + 1)))) q.1)
       (λ h e k q. let p = given_premises h e k q in (p.0, (calls_same [] memory (lit≤ tt) fits p.0 p.1).0))
 
 -- ---- a wait report on the same data
@@ -149,7 +137,7 @@ module _ (m : Image) (cs : List Channel) (s : ℕ) (xs : List Step) where
 -- where a bound b₀ is answered, the wait report is within it; so it is by what is told of both
 pub keeps_told : (lent : State) (cs : List Channel) (s : ℕ) (words : List ℕ) (b b₀ : Bounded) (w : Waited) (after : State)
     → told_bound b ≡ told_bound b₀ → Waits lent cs s words w after
-    → ((h e k : ℕ) → b₀ ≡ bounded.Within h e k
+    → ((h e k : ℕ) → b₀ ≡ (Ok (bound_at h e k))
     → WaitWithin k (wait_of lent cs s (steps_of words)).answer (pending (wait_of lent cs s (steps_of words)).left.image cs s) × (k ≡ h + e + 1))
     → WaitInBound b w (pending after.image cs s)
 keeps_told lent cs s words b b₀ w after same waits gives =
@@ -167,7 +155,7 @@ bound-waits lent cs s words b w after fits bounds waits =
     let o = wait_of lent cs s xs in
     keeps_told lent cs s words b (bound_of m cs s xs) w after bounds waits
     (λ h e k q.
-    let given : BoundSays lent cs s xs (bounded.Within h e k) = subst (BoundSays lent cs s xs) q (bound-says m cs s xs lent.memory fits) in (
+    let given : BoundSays lent cs s xs (Ok (bound_at h e k)) = subst (BoundSays lent cs s xs) q (bound-says m cs s xs lent.memory fits) in (
       within_more _ _ o.answer (pending o.left.image cs s)
           (omega (arith, given.2, given.3, given.4, fewer_until m cs s (event_acknowledges s) es, calls_raise_none cs s (rival m cs s) es given.1))
           (wait-within lent cs s xs fits given.0 (handle_until cs s (event_acknowledges s) es (calls_handle cs s es given.1))),

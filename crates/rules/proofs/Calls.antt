@@ -1,21 +1,17 @@
 -- Demand 3 and the handlers' claim of a list of calls, each a single step, a run or a wait report: all the steps that they did are one list of calls. Assumes nothing.
+use Rattle.std.specs.Prelude.{Ok, Err}
 use mathlib.Core.Path.{◌≡◌, refl, sym, ap, subst, ◌∙◌}
 use mathlib.Core.List.{List, [], ◌∷◌, ◌++◌, append_assoc}
 use Prim.Native.Nat.{ℕ, zero, suc}
 use lib.ListN.{take}
 use Rattle.rules.specs.declared.Channel.{Channel}
 use Rattle.rules.specs.declared.Step.{Step}
-use Rattle.rules.specs.declared.Ran.{Ran}
-use Rattle.rules.specs.declared.Waited.{Waited}
 use Rattle.rules.specs.declared.Refusal.{Refusal}
-use Rattle.rules.specs.declared.Verdict.{Verdict}
-use Rattle.rules.specs.declared.Verdict.TheVariants as verdict
 use Rattle.rules.specs.declared.Flat.{Flat}
-use Rattle.rules.specs.declared.Answer.{Answer}
 use Rattle.rules.specs.Image.{Image}
-use Rattle.rules.specs.Outcomes.{State, state, alone, outcome, refused_or}
+use Rattle.rules.specs.Outcomes.{State, state, alone, outcome, refused_or, Verdict, Answered}
 use Rattle.rules.specs.Steps.{lent_verdict, step_of}
-use Rattle.rules.specs.Runs.{Event, Chain, image_after, history, last_answer, run_events, run_answer, run_of, wait_verdict, wait_events, wait_answer, wait_of}
+use Rattle.rules.specs.Runs.{Event, Chain, image_after, history, last_answer, run_events, run_answer, run_of, wait_verdict, wait_events, wait_answer, wait_of, Ran, Waited}
 use Rattle.rules.specs.Demand3.{OnlyCalls}
 use Rattle.rules.specs.Encodings.{decode_of, steps_of, list_in, told, told_run, told_wait}
 use Rattle.rules.specs.Promises.{Does, Reads, Runs, RunClaims, Waits, WaitClaims, TellsStep, TellsRun, TellsWait}
@@ -83,8 +79,8 @@ only_first (u ∷ us) vs c = (c.0, c.1, only_first us vs c.2)
 -- what a call answers is told by its events
 verdict_told : {A : Type 0} (v : Verdict) (s t : State) (f : Refusal → A) (g : List Event → A) (es : List Event)
     → (refused_or v (λ r. outcome (f r) s) (outcome (g es) t)).answer ≡ refused_or v f (g (refused_or v (λ r. []) es))
-verdict_told verdict.Accepted s t f g es = refl
-verdict_told (verdict.Refused r) s t f g es = refl
+verdict_told (Ok it) s t f g es = refl
+verdict_told (Err r) s t f g es = refl
 
 kept-numbers : (s : State) (cs : List Channel) (asked : Asked) (numbers : Flat) (after : State) → Keeps s cs asked numbers after → numbers ≡ numbers_of s cs asked
 unfolding history last_answer run_of wait_of
@@ -114,7 +110,7 @@ module _ (s : State) (cs : List Channel) (after : State) where
   both : {t : State} → after ≡ t → (after.image ≡ t.image) × (after.memory ≡ t.memory)
   both e = (ap (λ (t : State). t.image) e, ap (λ (t : State). t.memory) e)
 
-  pub does_fixes : (x : Step) (a : Answer) → Does s cs x a after
+  pub does_fixes : (x : Step) (a : Answered) → Does s cs x a after
       → (after.image ≡ (step_of s cs x).left.image) × (after.memory ≡ (step_of s cs x).left.memory)
   does_fixes x a d = both d.1
 
@@ -129,10 +125,10 @@ module _ (s : State) (cs : List Channel) (after : State) where
 -- ---- what the entries and the exports promise is that a call is kept
 
 -- a step by its answer; a read, whose image is lent to be read only, leaves it
-pub step_keeps : (s : State) (cs : List Channel) (x : Step) (a : Answer) (after : State) → Does s cs x a after → Keeps s cs (step x) (told a) after
+pub step_keeps : (s : State) (cs : List Channel) (x : Step) (a : Answered) (after : State) → Does s cs x a after → Keeps s cs (step x) (told a) after
 step_keeps s cs x a after d = (a, refl, d)
 
-pub read_keeps : (m : Image) (cs : List Channel) (r : ℕ) (a : Answer) → Reads m cs r a → Keeps (alone m) cs (step (kind.Read r)) (told a) (alone m)
+pub read_keeps : (m : Image) (cs : List Channel) (r : ℕ) (a : Answered) → Reads m cs r a → Keeps (alone m) cs (step (kind.Read r)) (told a) (alone m)
 read_keeps m cs r a d = (a, refl, (d, sym (read-leaves (alone m) cs r)))
 
 pub run_keeps : (s : State) (cs : List Channel) (words : List ℕ) (a : Ran) (after : State) → RunClaims s cs words a after → Keeps s cs (run words) (told_run a) after

@@ -9,6 +9,7 @@ use native.Mathlib.Nat.{not-suc-le-zero, le-suc, le_trans, le_refl}
 use native.Mathlib.Omega.{arith}
 use native.Mathlib.Numerals.{add-one}
 use native.Mathlib.Decide.{ℕ_discrete}
+use mir.Val.{bool_byte}
 use Rattle.rules.specs.declared.Channel.{Channel}
 use Rattle.rules.specs.Image.{Image}
 use Rattle.rules.specs.Sources.{sources, pending}
@@ -16,6 +17,11 @@ use Rattle.rules.specs.Runs.{one_if}
 use Rattle.rules.specs.Demand3.{count_below, pending_of}
 use Rattle.rules.specs.Handlers.{raises, raised}
 use Rattle.rules.proofs.Bools.{both}
+
+-- a truth value as the code's number
+pub byte_one : (b : Bool) → bool_byte b ≡ one_if b
+byte_one true = refl
+byte_one false = refl
 
 -- `one_if` is at most 1
 pub one_le : (t : Bool) → one_if t ≤ 1

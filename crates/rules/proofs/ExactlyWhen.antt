@@ -1,6 +1,7 @@
 -- Document 01, "Refusal numbers", the column "given exactly when": a step is refused with a number where the table says, and only there.
 -- Assumes nothing.
-use mathlib.Core.Path.{◌≡◌, refl, ap, subst, ◌∙◌}
+use Rattle.std.specs.Prelude.{Option, Ok, Err, None, Result, Some}
+use mathlib.Core.Path.{◌≡◌, refl, subst, ◌∙◌}
 use mathlib.Core.Logic.{◌≢◌, ◌⊎◌, inl, inr}
 use mathlib.Core.Bool.{true, false, ◌||◌}
 use mathlib.Core.List.{List}
@@ -11,22 +12,17 @@ use lib.ListN.{length}
 use borrow.Author.Tests.{ltb-true, ltb-false, eqb-true, eqb-false}
 use Rattle.rules.specs.declared.Channel.{Channel}
 use Rattle.rules.specs.declared.Place.{Place}
-use Rattle.rules.specs.declared.Place.TheVariants.{At, Unmodelled}
 use Rattle.rules.specs.declared.Trigger.{Trigger}
 use Rattle.rules.specs.declared.Trigger.TheVariants as trigger
 use Rattle.rules.specs.declared.Step.{Step}
 use Rattle.rules.specs.declared.Step.TheVariants as step
 use Rattle.rules.specs.declared.Winner.{Winner}
 use Rattle.rules.specs.declared.Winner.TheVariants as winner
-use Rattle.rules.specs.declared.Answer.{Answer}
-use Rattle.rules.specs.declared.Answer.TheVariants as answer
 use Rattle.rules.specs.declared.Refusal.{Refusal}
 use Rattle.rules.specs.declared.Refusal.TheVariants as refusal
-use Rattle.rules.specs.declared.Verdict.{Verdict}
-use Rattle.rules.specs.declared.Verdict.TheVariants as verdict
 use Rattle.rules.specs.Image.{Image, at, in_service}
 use Rattle.rules.specs.Channels.{list_ok, dcpr_byte}
-use Rattle.rules.specs.Outcomes.{State, Outcome, verdict_of}
+use Rattle.rules.specs.Outcomes.{State, Outcome, Answered, accepted}
 use Rattle.rules.specs.Registers.{place_of, read_at, read_of, write_at, write_of, reset_of}
 use Rattle.rules.specs.Sources.{record_of}
 use Rattle.rules.specs.Triggers.{trigger_verdict, fired, trigger_of}
@@ -74,22 +70,22 @@ BadPointer m c =
 abbrev pub Cause : State → List Channel → Step → Refusal → Type 0
 Cause s cs x refusal.Length = length s.image ≢ 1265
 Cause s cs x refusal.List = (length s.image ≡ 1265) × (list_ok cs ≡ false)
-Cause s cs x refusal.Register = Lent s cs verdict.Accepted × (r : ℕ) × Accesses x r × (place_of s.image cs r ≡ Unmodelled)
-Cause s cs x refusal.Number = Lent s cs verdict.Accepted × (t : Trigger) × (x ≡ step.Trigger t) × BadNumber cs t
+Cause s cs x refusal.Register = Lent s cs accepted × (r : ℕ) × Accesses x r × (place_of s.image cs r ≡ None)
+Cause s cs x refusal.Number = Lent s cs accepted × (t : Trigger) × (x ≡ step.Trigger t) × BadNumber cs t
 Cause s cs x refusal.Address =
-    Lent s cs verdict.Accepted × (w : ℕ) × DmaWins s.image cs x w × (at s.image (dcpr_byte (record_of cs w)) % 2 ≡ 0)
+    Lent s cs accepted × (w : ℕ) × DmaWins s.image cs x w × (at s.image (dcpr_byte (record_of cs w)) % 2 ≡ 0)
     × (pair_of s.image (record_of cs w) ≤ 222) × (address_pair_of s.image (record_of cs w) ≤ 222)
     × (length s.memory ≤ word_at s.image (address_pair_of s.image (record_of cs w)))
-Cause s cs x refusal.Pointer = Lent s cs verdict.Accepted × (w : ℕ) × DmaWins s.image cs x w × BadPointer s.image (record_of cs w)
-Cause s cs x refusal.Kind = Lent s cs verdict.Accepted × ((x ≡ step.Unknown) ⊎ (x ≡ step.Trigger trigger.Unknown))
+Cause s cs x refusal.Pointer = Lent s cs accepted × (w : ℕ) × DmaWins s.image cs x w × BadPointer s.image (record_of cs w)
+Cause s cs x refusal.Kind = Lent s cs accepted × ((x ≡ step.Unknown) ⊎ (x ≡ step.Trigger trigger.Unknown))
 Cause s cs x refusal.Memory = (length s.image ≡ 1265) × (list_ok cs ≡ true) × (65536 < length s.memory)
 
 -- ---- only then
 
--- a verdict on a step has its cause, where it refuses
-abbrev Explained : State → List Channel → Step → Verdict → Type 0
-Explained s cs x verdict.Accepted = Unit {0}
-Explained s cs x (verdict.Refused r) = Cause s cs x r
+-- a verdict on a step has its cause, where it is_refused
+abbrev Explained : {A : Type 0} → State → List Channel → Step → Result A Refusal → Type 0
+Explained s cs x (Ok it) = Unit {0}
+Explained s cs x (Err r) = Cause s cs x r
 
 over : (a b x y : ℕ) → (ltb a x || ltb b y) ≡ true → (a < x) ⊎ (b < y)
 over a b x y e = go (or_cases (ltb a x) (ltb b y) e)
@@ -98,18 +94,18 @@ over a b x y e = go (or_cases (ltb a x) (ltb b y) e)
     go (inl t) = inl (ltb-true a x t)
     go (inr t) = inr (ltb-true b y t)
 
-module _ (s : State) (cs : List Channel) (l : Lent s cs verdict.Accepted) where
+module _ (s : State) (cs : List Channel) (l : Lent s cs accepted) where
   abbrev m : Image
   m = s.image
 
-  read_explained : (r : ℕ) (p : Place) → place_of m cs r ≡ p → Explained s cs (step.Read r) (verdict_of (read_at m p))
-  read_explained r (At i e) f = tt
-  read_explained r Unmodelled f = (l, r, inl refl, f)
+  read_explained : (r : ℕ) (p : Option Place) → place_of m cs r ≡ p → Explained s cs (step.Read r) (read_at m p)
+  read_explained r (Some p) f = tt
+  read_explained r None f = (l, r, inl refl, f)
 
-  write_explained : (r v : ℕ) (p : Place) → place_of m cs r ≡ p → Explained s cs (step.Write r v) (verdict_of (write_at m p v).answer)
+  write_explained : (r v : ℕ) (p : Option Place) → place_of m cs r ≡ p → Explained s cs (step.Write r v) (write_at m p v).answer
   unfolding write_at
-  write_explained r v (At i e) f = tt
-  write_explained r v Unmodelled f = (l, r, inr (v, refl), f)
+  write_explained r v (Some p) f = tt
+  write_explained r v None f = (l, r, inr (v, refl), f)
 
   trigger_explained : (t : Trigger) → Explained s cs (step.Trigger t) (trigger_verdict cs t)
   unfolding trigger_verdict
@@ -123,15 +119,15 @@ module _ (s : State) (cs : List Channel) (l : Lent s cs verdict.Accepted) where
       (λ e. (l, trigger.Request k, refl, ltb-false k (length cs) e))
   trigger_explained trigger.Unknown = (l, inr refl)
 
-  fire_explained : (t : Trigger) → Explained s cs (step.Trigger t) (verdict_of (trigger_of m cs t).answer)
+  fire_explained : (t : Trigger) → Explained s cs (step.Trigger t) (trigger_of m cs t).answer
   unfolding trigger_of fired
   fire_explained t =
       let h = trigger_explained t in
-      verdict_elim (λ (o : Outcome Answer Image). Explained s cs (step.Trigger t) (verdict_of o.answer)) (trigger_verdict cs t) (λ e. tt) (λ r e. rw e at h)
+      verdict_elim (λ (o : Outcome Answered Image). Explained s cs (step.Trigger t) o.answer) (trigger_verdict cs t) (λ e. tt) (λ r e. rw e at h)
 
   -- what an arbitration answers with has its cause
-  abbrev Arbitrated : Outcome Answer State → Type 0
-  Arbitrated c = Explained s cs step.Arbitrate (verdict_of c.answer)
+  abbrev Arbitrated : Outcome Answered State → Type 0
+  Arbitrated c = Explained s cs step.Arbitrate c.answer
 
   grant_explained : in_service m ≡ false → top_level m ≡ false → (w : Winner) → winner_of m cs ≡ w → Arbitrated (granted s cs w)
   unfolding granted transfer_of register_transfer memory_transfer served served_memory finished
@@ -163,7 +159,7 @@ module _ (s : State) (cs : List Channel) (l : Lent s cs verdict.Accepted) where
       odd : (n : ℕ) → n % 2 ≢ 0 → n % 2 ≡ 1
       odd n d = omega arith
 
-  act_explained : (x : Step) → Explained s cs x (verdict_of (act_of s cs x).answer)
+  act_explained : (x : Step) → Explained s cs x (act_of s cs x).answer
   unfolding act_of read_of write_of arbitrate_of return_of reset_of
   act_explained (step.Read r) = read_explained r (place_of m cs r) refl
   act_explained (step.Write r v) = write_explained r v (place_of m cs r) refl
@@ -175,7 +171,7 @@ module _ (s : State) (cs : List Channel) (l : Lent s cs verdict.Accepted) where
   act_explained step.Reset = tt
   act_explained step.Unknown = (l, inl refl)
 
-lent_explained : (s : State) (cs : List Channel) (x : Step) (r : Refusal) → Lent s cs (verdict.Refused r) → Cause s cs x r
+lent_explained : (s : State) (cs : List Channel) (x : Step) (r : Refusal) → Lent s cs (Err r) → Cause s cs x r
 lent_explained s cs x refusal.Length h = h
 lent_explained s cs x refusal.List h = h
 lent_explained s cs x refusal.Register h = absurd h
@@ -186,46 +182,46 @@ lent_explained s cs x refusal.Kind h = absurd h
 lent_explained s cs x refusal.Memory h = h
 
 -- a refusal is given only for its cause, whatever the image, the list and the step are
-pub refused_only : (s : State) (cs : List Channel) (x : Step) (r : Refusal) → (step_of s cs x).answer ≡ answer.Refused r → Cause s cs x r
+pub refused_only : (s : State) (cs : List Channel) (x : Step) (r : Refusal) → (step_of s cs x).answer ≡ (Err r) → Cause s cs x r
 unfolding step_of
 refused_only s cs x r p =
     let h = lent_means s cs in
-    subst (Explained s cs x) (ap verdict_of p)
-    (verdict_elim (λ (o : Outcome Answer State). Explained s cs x (verdict_of o.answer)) (lent_verdict s cs) (λ v. act_explained s cs (rw v at h) x)
+    subst (Explained s cs x) p
+    (verdict_elim (λ (o : Outcome Answered State). Explained s cs x o.answer) (lent_verdict s cs) (λ v. act_explained s cs (rw v at h) x)
     (λ q v. lent_explained s cs x q (rw v at h)))
 
 -- ---- and always then
 
-bad_number : (cs : List Channel) (t : Trigger) → BadNumber cs t → trigger_verdict cs t ≡ verdict.Refused refusal.Number
+bad_number : (cs : List Channel) (t : Trigger) → BadNumber cs t → trigger_verdict cs t ≡ (Err refusal.Number)
 bad_number cs (trigger.Pin k d) h = pin_refused cs k d h
 bad_number cs trigger.Watchdog h = absurd h
 bad_number cs (trigger.Nmi d) h = (nmi_verdict cs d).1 h
 bad_number cs (trigger.Request k) h = (request_verdict cs k).1 h
 bad_number cs trigger.Unknown h = absurd h
 
-module _ (s : State) (cs : List Channel) (x : Step) (l : Lent s cs verdict.Accepted) where
-  acts : (y : Step) → x ≡ y → (a : Answer) → (act_of s cs y).answer ≡ a → (step_of s cs x).answer ≡ a
+module _ (s : State) (cs : List Channel) (x : Step) (l : Lent s cs accepted) where
+  acts : (y : Step) → x ≡ y → (a : Answered) → (act_of s cs y).answer ≡ a → (step_of s cs x).answer ≡ a
   acts y e a p = rw (e, accepted-acts s cs y l.0 l.1 l.2) p
 
-  accessed : (r : ℕ) → Accesses x r → place_of s.image cs r ≡ Unmodelled → (step_of s cs x).answer ≡ answer.Refused refusal.Register
+  accessed : (r : ℕ) → Accesses x r → place_of s.image cs r ≡ None → (step_of s cs x).answer ≡ (Err refusal.Register)
   unfolding act_of
   accessed r (inl e) f = acts (step.Read r) e _ (read-refused s.image cs r f)
   accessed r (inr (v, e)) f = acts (step.Write r v) e _ (write-refused s.image cs r v f).0
 
-  triggered : (t : Trigger) (r : Refusal) → x ≡ step.Trigger t → trigger_verdict cs t ≡ verdict.Refused r → (step_of s cs x).answer ≡ answer.Refused r
+  triggered : (t : Trigger) (r : Refusal) → x ≡ step.Trigger t → trigger_verdict cs t ≡ (Err r) → (step_of s cs x).answer ≡ (Err r)
   unfolding act_of trigger_of
-  triggered t r e v = acts (step.Trigger t) e (answer.Refused r) (rw v)
+  triggered t r e v = acts (step.Trigger t) e (Err r) (rw v)
 
-  transfers : (w : ℕ) (c : Outcome Answer State) → DmaWins s.image cs x w → transfer_of s (record_of cs w) w ≡ c → (step_of s cs x).answer ≡ c.answer
+  transfers : (w : ℕ) (c : Outcome Answered State) → DmaWins s.image cs x w → transfer_of s (record_of cs w) w ≡ c → (step_of s cs x).answer ≡ c.answer
   unfolding act_of arbitrate_of granted
   transfers w c h p = acts step.Arbitrate h.arbitrates c.answer (rw (h.idle, h.no_top, h.wins, p))
 
-  unknown : (x ≡ step.Unknown) ⊎ (x ≡ step.Trigger trigger.Unknown) → (step_of s cs x).answer ≡ answer.Refused refusal.Kind
+  unknown : (x ≡ step.Unknown) ⊎ (x ≡ step.Trigger trigger.Unknown) → (step_of s cs x).answer ≡ (Err refusal.Kind)
   unknown (inl e) = rw (e, unknown-step s cs l.0 l.1 l.2)
   unknown (inr e) = triggered trigger.Unknown refusal.Kind e (kind_verdict_lem cs).1
 
 -- where there is a cause the step is refused with its number, and by refused-same nothing changes
-pub refused_whenever : (s : State) (cs : List Channel) (x : Step) (r : Refusal) → Cause s cs x r → (step_of s cs x).answer ≡ answer.Refused r
+pub refused_whenever : (s : State) (cs : List Channel) (x : Step) (r : Refusal) → Cause s cs x r → (step_of s cs x).answer ≡ (Err r)
 refused_whenever s cs x refusal.Length h = rw (length-first s cs x h)
 refused_whenever s cs x refusal.List (h, f) = rw (list_second s cs x h f)
 refused_whenever s cs x refusal.Register (l, r, a, f) = accessed s cs x l r a f

@@ -1,4 +1,5 @@
 -- The bound, a second reading of the answers that give none: the premises before the one that is answered hold, and that one fails. Assumes nothing.
+use Rattle.std.specs.Prelude.{Ok, Err}
 use mathlib.Core.Path.{◌≡◌, refl}
 use mathlib.Core.Logic.{◌⊎◌, inl, inr}
 use mathlib.Core.List.{List, [], ◌∷◌}
@@ -11,16 +12,14 @@ use lib.ListN.{take}
 use borrow.Author.Tests.{ltb-true, ltb-false}
 use Rattle.rules.specs.declared.Channel.{Channel}
 use Rattle.rules.specs.declared.Step.{Step}
-use Rattle.rules.specs.declared.Verdict.TheVariants as verdict
 use Rattle.rules.specs.declared.Basis.{Basis}
-use Rattle.rules.specs.declared.Bounded.{Bounded}
-use Rattle.rules.specs.declared.Bounded.TheVariants as bounded
+use Rattle.rules.specs.declared.NoBound.TheVariants as no_bound
 use Rattle.rules.specs.Image.{Image, has, in_service, CPL, IAM, TLI, TLNM}
-use Rattle.rules.specs.Outcomes.{alone}
+use Rattle.rules.specs.Outcomes.{alone, accepted}
 use Rattle.rules.specs.Sources.{sources, pending, unmasked, dma_enabled, level}
 use Rattle.rules.specs.Runs.{Event, history, any_event, wait_verdict}
 use Rattle.rules.specs.Demand3.{H, E, Start}
-use Rattle.rules.specs.Bounds.{any_dma, calm_premises, source_premises, start_premises, other_step, disabled_step, first_from, bounding, bound_in, bound_of}
+use Rattle.rules.specs.Bounds.{any_dma, calm_premises, source_premises, start_premises, other_step, disabled_step, first_from, bounding, bound_in, bound_of, Bounded}
 use Rattle.rules.proofs.Verdicts.{verdict_elim}
 use Rattle.rules.proofs.Bools.{impossible, or_l}
 use Rattle.rules.proofs.AnyBelow.{any_some, none_passes}
@@ -60,7 +59,7 @@ module _ (p : Event → Bool) where
 module _ (m : Image) (cs : List Channel) (s : ℕ) where
   -- within the rules, and the source is there
   abbrev Accepted : Type 0
-  Accepted = wait_verdict (alone m) cs s ≡ verdict.Accepted
+  Accepted = wait_verdict (alone m) cs s ≡ accepted
 
   -- concurrent mode
   abbrev Concurrent : Type 0
@@ -118,18 +117,18 @@ module _ (m : Image) (cs : List Channel) (s : ℕ) where
   -- the premises before it hold, and it fails; what is said of the answers on the steps is given
   module _ (Other : ℕ → Type 0) (Changes : Basis → ℕ → Type 0) (Disabled : ℕ → Type 0) (All : Type 0) where
     abbrev pub FailingBy : Bounded → Type 0
-    FailingBy (bounded.Refused r) = wait_verdict (alone m) cs s ≡ verdict.Refused r
-    FailingBy bounded.Nested = Accepted × (has m IAM ≡ true)
-    FailingBy bounded.DmaEnabled = Concurrent × (k : ℕ) × (k < sources cs) × (dma_enabled m cs k ≡ true)
-    FailingBy bounded.TopLevelEnabled = NoDma × ((has m TLNM ≡ true) ⊎ (has m TLI ≡ true))
-    FailingBy bounded.TopLevelInService = TopDisabled × (in_service m ≡ true)
-    FailingBy bounded.NotPending = Idle × (pending m cs s ≡ false)
-    FailingBy bounded.Masked = Waits × (unmasked m cs s ≡ false)
-    FailingBy bounded.LevelNotAbove = Open × (CPL m ≤ level m cs s)
-    FailingBy (bounded.OtherStep i) = Above × Other i
-    FailingBy (bounded.Changed a i) = Above × Changes a i
-    FailingBy (bounded.InterruptsDisabled i) = Above × Disabled i
-    FailingBy (bounded.Within h e k) = Above × All
+    FailingBy (Err (no_bound.Refused r)) = wait_verdict (alone m) cs s ≡ (Err r)
+    FailingBy (Err no_bound.Nested) = Accepted × (has m IAM ≡ true)
+    FailingBy (Err no_bound.DmaEnabled) = Concurrent × (k : ℕ) × (k < sources cs) × (dma_enabled m cs k ≡ true)
+    FailingBy (Err no_bound.TopLevelEnabled) = NoDma × ((has m TLNM ≡ true) ⊎ (has m TLI ≡ true))
+    FailingBy (Err no_bound.TopLevelInService) = TopDisabled × (in_service m ≡ true)
+    FailingBy (Err no_bound.NotPending) = Idle × (pending m cs s ≡ false)
+    FailingBy (Err no_bound.Masked) = Waits × (unmasked m cs s ≡ false)
+    FailingBy (Err no_bound.LevelNotAbove) = Open × (CPL m ≤ level m cs s)
+    FailingBy (Err (no_bound.OtherStep i)) = Above × Other i
+    FailingBy (Err (no_bound.Changed a i)) = Above × Changes a i
+    FailingBy (Err (no_bound.InterruptsDisabled i)) = Above × Disabled i
+    FailingBy (Ok its) = Above × All
 
     module _ (b : Bounded) (steps : Above → FailingBy b) where
       -- of the source
@@ -138,7 +137,7 @@ module _ (m : Image) (cs : List Channel) (s : ℕ) where
       source-failing c = go (pending m cs s) (unmasked m cs s) (ltb (level m cs s) (CPL m)) refl refl refl
         where
           go : (waits mask above : Bool) → pending m cs s ≡ waits → unmasked m cs s ≡ mask → ltb (level m cs s) (CPL m) ≡ above
-              → FailingBy (cond waits (cond mask (cond above b bounded.LevelNotAbove) bounded.Masked) bounded.NotPending)
+              → FailingBy (cond waits (cond mask (cond above b (Err no_bound.LevelNotAbove)) (Err no_bound.Masked)) (Err no_bound.NotPending))
           go false mask above p q r = (c, p)
           go true false above p q r = ((c, p), q)
           go true true false p q r = (((c, p), q), ltb-false (level m cs s) (CPL m) r)
@@ -153,7 +152,7 @@ module _ (m : Image) (cs : List Channel) (s : ℕ) where
           no_dma_lem q k h = none_passes (dma_enabled m cs) (sources cs) k q h
 
           go : (iam dma tlnm tli mark : Bool) → has m IAM ≡ iam → any_dma m cs ≡ dma → has m TLNM ≡ tlnm → has m TLI ≡ tli → in_service m ≡ mark
-              → FailingBy (cond iam bounded.Nested (cond dma bounded.DmaEnabled (cond (tlnm || tli) bounded.TopLevelEnabled (cond mark bounded.TopLevelInService (source_premises m cs s b)))))
+              → FailingBy (cond iam (Err no_bound.Nested) (cond dma (Err no_bound.DmaEnabled) (cond (tlnm || tli) (Err no_bound.TopLevelEnabled) (cond mark (Err no_bound.TopLevelInService) (source_premises m cs s b)))))
           go true dma tlnm tli mark p q r t u = (a, p)
           go false true tlnm tli mark p q r t u = let k = any_some (dma_enabled m cs) (sources cs) q in ((a, p), k.0, k.1, k.2)
           go false false true tli mark p q r t u = (((a, p), no_dma_lem q), inl r)
@@ -170,7 +169,7 @@ module _ (m : Image) (cs : List Channel) (s : ℕ) (es : List Event) where
       ((any_event other_step es ≡ false) × (any_event disabled_step es ≡ false))
 
   steps-failing : Above m cs s → (o d : Option ℕ) (h e : ℕ) → first_from 0 other_step es ≡ o → first_from 0 disabled_step es ≡ d
-      → Failing (get_or (map bounded.OtherStep o) (get_or (map bounded.InterruptsDisabled d) (bounding h e)))
+      → Failing (get_or (map (λ index. Err (no_bound.OtherStep index)) o) (get_or (map (λ index. Err (no_bound.InterruptsDisabled index)) d) (bounding h e)))
   steps-failing a (some i) d h e p q = let f = first-at other_step 0 es i p in let n : f.0 ≡ i = omega (arith, f.1) in (a, rw n at f.2)
   steps-failing a none (some i) h e p q =
       let f = first-at disabled_step 0 es i q in

@@ -1,9 +1,10 @@
 -- The bound of Handlers as a function: a bound is answered exactly where the premises hold, else the first premise that fails. Assumes nothing.
+use Rattle.std.specs.Prelude.{Ok, Err}
 use mathlib.Core.Path.{◌≡◌, refl, sym, ap, ap₂, ◌∙◌, subst}
 use mathlib.Core.Logic.{◌⊎◌, inl, inr}
 use mathlib.Core.List.{List, [], ◌∷◌}
 use mathlib.Core.Bool.{Bool, true, false, cond}
-use mathlib.Core.Option.{Option, none, some, or_else, get_or}
+use mathlib.Core.Option.{Option, none, some, or_else, get_or, map}
 use Prim.Native.Nat.{ℕ, suc, ◌+◌, ◌≤◌}
 use native.Mathlib.Omega.{arith}
 use lib.Dec.{lit≤}
@@ -12,14 +13,14 @@ use Rattle.rules.specs.declared.Channel.{Channel}
 use Rattle.rules.specs.declared.Step.{Step}
 use Rattle.rules.specs.declared.Step.TheVariants as step
 use Rattle.rules.specs.declared.Basis.{Basis}
-use Rattle.rules.specs.declared.Bounded.{Bounded}
-use Rattle.rules.specs.declared.Bounded.TheVariants as bounded
+use Rattle.rules.specs.declared.NoBound.{NoBound}
+use Rattle.rules.specs.declared.NoBound.TheVariants as no_bound
 use Rattle.rules.specs.Image.{Image, Memory, Fits, has, IEN}
 use Rattle.rules.specs.Outcomes.{state, alone}
 use Rattle.rules.specs.Runs.{Event, history, event_refused, is_arbitration, event_acknowledges, wait_verdict}
 use Rattle.rules.specs.Demand3.{Enabled, rival, H, Start}
 use Rattle.rules.specs.Handlers.{is_write, EAndRaised, MayDo, May, Handles, up_to}
-use Rattle.rules.specs.Bounds.{disabled_step, bound_of, BoundSays, bounding}
+use Rattle.rules.specs.Bounds.{disabled_step, bound_of, BoundSays, bounding, Bounded, bound_at}
 use Rattle.rules.specs.HandlerBounds.{changes, bases, first_changed, broken_step, broken_by, first_broken, handler_bound_in, handler_bound_of, HandlerBoundSays}
 use Rattle.rules.specs.Encodings.{steps_of}
 use Rattle.rules.specs.Promises.{HandlerBoundNotAbove, HandlerBoundWaits}
@@ -40,11 +41,11 @@ use Rattle.rules.proofs.BoundLaws.{where_elim, exactly_where, start-kept, bound-
 
 module _ (cs : List Channel) (s : ℕ) where
   -- a step that is not refused: it may be done, or it may not and the answer says why
-  abbrev StepBreaks : Image → Step → Image → ℕ → Option Bounded → Type 0
+  abbrev StepBreaks : Image → Step → Image → ℕ → Option NoBound → Type 0
   StepBreaks m x m' i none = MayDo cs s m x m'
   StepBreaks m x m' i (some b) =
       (MayDo cs s m x m' → ⊥)
-      × (((b ≡ bounded.OtherStep i) × (is_write x ≡ false)) ⊎ ((a : Basis) × (b ≡ bounded.Changed a i) × (is_write x ≡ true) × Leads (changes cs s m m') i bases a))
+      × (((b ≡ (no_bound.OtherStep i)) × (is_write x ≡ false)) ⊎ ((a : Basis) × (b ≡ (no_bound.Changed a i)) × (is_write x ≡ true) × Leads (changes cs s m m') i bases a))
 
   step-breaks : (m : Image) (x : Step) (m' : Image) (i : ℕ) → StepBreaks m x m' i (broken_step cs s m x m' i)
   unfolding broken_step
@@ -54,7 +55,7 @@ module _ (cs : List Channel) (s : ℕ) where
       p : Basis → Bool
       p = changes cs s m m'
 
-      go : (o : Option Bounded) → FirstIs p i bases o → StepBreaks m (step.Write r v) m' i o
+      go : (o : Option NoBound) → FirstIs p i bases o → StepBreaks m (step.Write r v) m' i o
       go none f = unchanged_leaves cs s m m' (every_basis p i f)
       go (some b) f = (λ l. not_both (p f.0) f.2.4 (leaves_unchanged cs s m m' l f.0), inr (f.0, f.1, refl, f.2))
   step-breaks m (step.Trigger t) m' i = tt
@@ -67,11 +68,11 @@ module _ (cs : List Channel) (s : ℕ) where
   abbrev Meets : Event → Type 0
   Meets e = May cs s e × Enabled e
 
-  abbrev EventBreaks : Event → ℕ → Option Bounded → Type 0
+  abbrev EventBreaks : Event → ℕ → Option NoBound → Type 0
   EventBreaks e i none = Meets e
   EventBreaks e i (some b) =
       (Meets e → ⊥)
-      × (((b ≡ bounded.InterruptsDisabled i) × (disabled_step e ≡ true))
+      × (((b ≡ (no_bound.InterruptsDisabled i)) × (disabled_step e ≡ true))
       ⊎ ((event_refused e ≡ false) × StepBreaks e.before.image e.step e.outcome.left.image i (some b)))
 
   event-breaks : (e : Event) (i : ℕ) → EventBreaks e i (broken_by cs s e i)
@@ -83,8 +84,8 @@ module _ (cs : List Channel) (s : ℕ) where
       enabled : disabled_step e ≡ false → Enabled e
       enabled = implies (is_arbitration e.step) (has e.before.image IEN)
 
-      go : (d r : Bool) (o : Option Bounded) → disabled_step e ≡ d → event_refused e ≡ r → StepBreaks e.before.image e.step e.outcome.left.image i o
-          → EventBreaks e i (cond d (some (bounded.InterruptsDisabled i)) (cond r none o))
+      go : (d r : Bool) (o : Option NoBound) → disabled_step e ≡ d → event_refused e ≡ r → StepBreaks e.before.image e.step e.outcome.left.image i o
+          → EventBreaks e i (cond d (some (no_bound.InterruptsDisabled i)) (cond r none o))
       go true r o p q f =
           (λ h. not_both (disabled_step e) p (implied (is_arbitration e.step) (has e.before.image IEN) h.1), inl (refl, p))
       go false true o p q f = (λ t. absurd (not_both (event_refused e) q t), enabled p)
@@ -92,7 +93,7 @@ module _ (cs : List Channel) (s : ℕ) where
       go false false (some b) p q f = (λ h. f.0 (h.0 q), inr (q, f))
 
   -- none where the premises hold; else the first event that breaks one
-  abbrev ListBreaks : List Event → ℕ → Option Bounded → Type 0
+  abbrev ListBreaks : List Event → ℕ → Option NoBound → Type 0
   ListBreaks es i none = Handles cs s es
   ListBreaks es i (some b) =
       (n : ℕ) × (e : Event) × (rest : List Event) × (drop n es ≡ (e ∷ rest)) × Handles cs s (take n es) × EventBreaks e (i + n) (some b)
@@ -102,7 +103,7 @@ module _ (cs : List Channel) (s : ℕ) where
   list_breaks [] i = tt
   list_breaks (e ∷ es) i = go (broken_by cs s e i) (first_broken cs s (i + 1) es) (event-breaks e i) (list_breaks es (i + 1))
     where
-      go : (o p : Option Bounded) → EventBreaks e i o → ListBreaks es (i + 1) p → ListBreaks (e ∷ es) i (or_else o p)
+      go : (o p : Option NoBound) → EventBreaks e i o → ListBreaks es (i + 1) p → ListBreaks (e ∷ es) i (or_else o p)
       go (some b) p f g = let z : i + 0 ≡ i = omega arith in (0, e, es, refl, tt, rw z f)
       go none none f g = (f.0, f.1, g)
       go none (some b) f g =
@@ -111,7 +112,7 @@ module _ (cs : List Channel) (s : ℕ) where
   meets-none : (e : Event) (i : ℕ) → Meets e → broken_by cs s e i ≡ none
   meets-none e i h = go (broken_by cs s e i) (event-breaks e i)
     where
-      go : (o : Option Bounded) → EventBreaks e i o → o ≡ none
+      go : (o : Option NoBound) → EventBreaks e i o → o ≡ none
       go none f = refl
       go (some b) f = absurd (f.0 h)
 
@@ -136,13 +137,13 @@ module _ (m : Image) (cs : List Channel) (s : ℕ) (es : List Event) where
       FailsAt (λ e. (event_refused e ≡ false) × (is_write e.step ≡ true) × Leads (changes cs s e.before.image e.outcome.left.image) i bases a) i)
       (FailsAt (λ e. disabled_step e ≡ true)) (Handles cs s es)
 
-  steps-failing : Above m cs s → (o : Option Bounded) (h e : ℕ) → ListBreaks cs s es 0 o → HandlerFailing (get_or o (bounding h e))
+  steps-failing : Above m cs s → (o : Option NoBound) (h e : ℕ) → ListBreaks cs s es 0 o → HandlerFailing (get_or (map Err o) (bounding h e))
   steps-failing a none h e f = (a, f)
   steps-failing a (some b) h e f = let z : 0 + f.0 ≡ f.0 = omega arith in go (rw z at f.5.1)
     where
-      go : ((b ≡ bounded.InterruptsDisabled f.0) × (disabled_step f.1 ≡ true))
+      go : ((b ≡ (no_bound.InterruptsDisabled f.0)) × (disabled_step f.1 ≡ true))
           ⊎ ((event_refused f.1 ≡ false) × StepBreaks cs s f.1.before.image f.1.step f.1.outcome.left.image f.0 (some b))
-          → HandlerFailing b
+          → HandlerFailing (Err b)
       go (inl q) = rw q.0 (a, (f.1, f.2, f.3, f.4, q.1))
       go (inr (r, (may, inl q))) = rw q.0 (a, (f.1, f.2, f.3, f.4, (r, q.1, may)))
       go (inr (r, (may, inr q))) = rw q.1 (a, (f.1, f.2, f.3, f.4, (r, q.2, q.3)))
@@ -163,14 +164,14 @@ module _ (m : Image) (cs : List Channel) (s : ℕ) (xs : List Step) where
 
   -- with the premises the bound is H + E + 1
   pub handler_bound-given : Start m cs s → Handles cs s events
-      → handler_bound_of m cs s xs ≡ bounded.Within (H m cs s) (EAndRaised m cs s events) (H m cs s + EAndRaised m cs s events + 1)
+      → handler_bound_of m cs s xs ≡ (Ok (bound_at (H m cs s) (EAndRaised m cs s events) (H m cs s + EAndRaised m cs s events + 1)))
   unfolding handler_bound_of handler_bound_in
   handler_bound-given a c =
       rw (wait-accepted (alone m) cs s (lent-accepted (alone m) cs a.calm.long a.calm.listed (lit≤ tt)) a.there)
       (start-kept m cs s (handler_bound_in m cs s events) a ∙ rw (handles_none cs s events 0 c))
 
   -- and with a bound they hold
-  pub handler_premises : (h e k : ℕ) → handler_bound_of m cs s xs ≡ bounded.Within h e k → Start m cs s × Handles cs s events
+  pub handler_premises : (h e k : ℕ) → handler_bound_of m cs s xs ≡ (Ok (bound_at h e k)) → Start m cs s × Handles cs s events
   handler_premises h e k q = let f = subst (HandlerFailing m cs s events) q handler_failing in (above-start m cs s f.0, f.1)
 
   -- the events until ours is acknowledged are with one memory those with another, where the premises hold of them
@@ -191,15 +192,15 @@ module _ (m : Image) (cs : List Channel) (s : ℕ) (xs : List Step) where
       exactly_where (Start m cs s) (Handles cs s (events_with memory)) (H m cs s) (EAndRaised m cs s (events_with memory)) (handler_bound_of m cs s xs)
       (λ a c.
       let q = handles_same memory [] fits (lit≤ tt) a c in
-      handler_bound-given a q.0 ∙ ap (λ (e : ℕ). bounded.Within (H m cs s) e (H m cs s + e + 1)) q.1)
+      handler_bound-given a q.0 ∙ ap (λ (e : ℕ). (Ok (bound_at (H m cs s) e (H m cs s + e + 1)))) q.1)
       (λ h e k q. let p = handler_premises h e k q in (p.0, (handles_same [] memory (lit≤ tt) fits p.0 p.1).0))
 
   -- where demand 3's bound is answered this one is too, and is no larger
-  pub handler_bound_sharper : (h e k : ℕ) → bound_of m cs s xs ≡ bounded.Within h e k
-      → (e' : ℕ) × (e' ≤ e) × (handler_bound_of m cs s xs ≡ bounded.Within h e' (h + e' + 1))
+  pub handler_bound_sharper : (h e k : ℕ) → bound_of m cs s xs ≡ (Ok (bound_at h e k))
+      → (e' : ℕ) × (e' ≤ e) × (handler_bound_of m cs s xs ≡ (Ok (bound_at h e' (h + e' + 1))))
   handler_bound_sharper h e k q =
       let es = history (alone m) cs xs in
-      let given : BoundSays (alone m) cs s xs (bounded.Within h e k) = subst (BoundSays (alone m) cs s xs) q (bound-says m cs s xs [] (lit≤ tt)) in (
+      let given : BoundSays (alone m) cs s xs (Ok (bound_at h e k)) = subst (BoundSays (alone m) cs s xs) q (bound-says m cs s xs [] (lit≤ tt)) in (
         EAndRaised m cs s events,
         omega (arith, given.3, fewer_until m cs s (event_acknowledges s) es, calls_raise_none cs s (rival m cs s) es given.1),
         rw given.2 (handler_bound-given given.0 (handle_until cs s (event_acknowledges s) es (calls_handle cs s es given.1))),
@@ -213,8 +214,8 @@ handler_bound_not_above m cs s words b b' bounds handlers =
     where_elim _ _ b
     (λ h e k q.
     let sharper = handler_bound_sharper m cs s xs h e k (sym (told-bound_injective b (bound_of m cs s xs) bounds) ∙ q) in
-    let same : b' ≡ bounded.Within h sharper.0 (h + sharper.0 + 1) = told-bound_injective b' (handler_bound_of m cs s xs) handlers ∙ sharper.2 in
-    let given : BoundSays (alone m) cs s xs (bounded.Within h e k) =
+    let same : b' ≡ (Ok (bound_at h sharper.0 (h + sharper.0 + 1))) = told-bound_injective b' (handler_bound_of m cs s xs) handlers ∙ sharper.2 in
+    let given : BoundSays (alone m) cs s xs (Ok (bound_at h e k)) =
     subst (BoundSays (alone m) cs s xs) (sym (told-bound_injective b (bound_of m cs s xs) bounds) ∙ q) (bound-says m cs s xs [] (lit≤ tt)) in
     rw same (refl, sharper.1, omega (arith, sharper.1, given.4)))
     (λ n. tt)
@@ -225,6 +226,6 @@ handler_bound-waits lent cs s words b w after fits bounds waits =
     let m = lent.image in
     keeps_told lent cs s words b (handler_bound_of m cs s xs) w after bounds waits
     (λ h e k q.
-    let given : HandlerBoundSays lent cs s xs (bounded.Within h e k) =
+    let given : HandlerBoundSays lent cs s xs (Ok (bound_at h e k)) =
     subst (HandlerBoundSays lent cs s xs) q (handler_bound-says m cs s xs lent.memory fits) in
     (rw (given.4, given.2, given.3) (wait-within lent cs s xs fits given.0 given.1), given.4))

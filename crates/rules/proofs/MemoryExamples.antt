@@ -1,4 +1,5 @@
 -- Document 02, §1: examples of a transfer with the memory, whole images and memories compared. The record is that of C09 to C11. Assumes nothing.
+use Rattle.std.specs.Prelude.{Ok, Err}
 use mathlib.Core.Path.{◌≡◌, refl}
 use mathlib.Core.Bool.{false}
 use mathlib.Core.List.{List, [], ◌∷◌}
@@ -8,7 +9,7 @@ use Rattle.rules.specs.declared.Channel.{Channel}
 use Rattle.rules.specs.declared.Step.TheVariants as step
 use Rattle.rules.specs.declared.Answer.TheVariants as answer
 use Rattle.rules.specs.declared.Refusal.TheVariants as refusal
-use Rattle.rules.specs.declared.Ran.TheVariants as ran
+use Rattle.rules.specs.declared.RunRefusal.TheVariants as run_refused
 use Rattle.rules.specs.Image.{Image, page_byte, put, CICR}
 use Rattle.rules.specs.Channels.{idcr_byte, ivr_byte, dcpr_byte, dapr_byte, data_byte, records_ok, member, distinct, all_bytes, list_ok}
 use Rattle.rules.specs.Outcomes.{state, outcome, refuse}
@@ -35,11 +36,11 @@ image_of dcpr dapr idcr bs =
 -- keeps the byte of its first
 pub memory-examples :
     (step_of (state (image_of 0x10 0x11 0x32 ((17 ↤ 5) ∷ [])) (0 ∷ 0 ∷ 0 ∷ 0 ∷ 0 ∷ 0 ∷ 0 ∷ 0 ∷ [])) channels step.Arbitrate
-    ≡ outcome (answer.Transferred 8 false) (state (image_of 0x10 0x11 0x12 ((17 ↤ 4) ∷ [])) (0 ∷ 0 ∷ 0 ∷ 0 ∷ 0 ∷ 0x5a ∷ 0 ∷ 0 ∷ [])))
+    ≡ outcome (Ok (answer.Transferred 8 false)) (state (image_of 0x10 0x11 0x12 ((17 ↤ 4) ∷ [])) (0 ∷ 0 ∷ 0 ∷ 0 ∷ 0 ∷ 0x5a ∷ 0 ∷ 0 ∷ [])))
     × (step_of (state (image_of 0xe0 0x10 0x32 []) []) channels step.Arbitrate ≡ refuse refusal.Pointer (state (image_of 0xe0 0x10 0x32 []) []))
     × (step_of (state (image_of 0x10 0x12 0x32 []) []) channels step.Arbitrate ≡ refuse refusal.Address (state (image_of 0x10 0x12 0x32 []) []))
-    × ((step_of (state (image_of 0x10 0x12 0x32 ((18 ↤ 1) ∷ [])) (1 ∷ 2 ∷ [])) channels step.Arbitrate).answer ≡ answer.Refused refusal.Address)
+    × ((step_of (state (image_of 0x10 0x12 0x32 ((18 ↤ 1) ∷ [])) (1 ∷ 2 ∷ [])) channels step.Arbitrate).answer ≡ (Err refusal.Address))
     × (run_of (state (image_of 0x10 0x12 0x32 ((17 ↤ 2) ∷ (19 ↤ 1) ∷ [])) (7 ∷ 7 ∷ [])) channels (step.Arbitrate ∷ step.Read 256 ∷ step.Arbitrate ∷ [])
-    ≡ outcome (ran.RefusedAt refusal.Register 1) (state (image_of 0x10 0x12 0x12 ((17 ↤ 1) ∷ (19 ↤ 2) ∷ [])) (7 ∷ 0x5a ∷ [])))
+    ≡ outcome (Err (run_refused.At refusal.Register 1)) (state (image_of 0x10 0x12 0x12 ((17 ↤ 1) ∷ (19 ↤ 2) ∷ [])) (7 ∷ 0x5a ∷ [])))
 unfolding image digit bit put_bit page_byte put existing_bits idcr_byte ivr_byte dcpr_byte dapr_byte data_byte records_ok member distinct all_bytes list_ok page_zero record_place records_place place_of read_of sources pending_bit pending unmasked dma_enabled external_level level request_of eligible is_at won_by candidate first winner_of_kind winner_at_level winner_of pair_of settled finished address_pair_of word_at put_word moved_memory one_more_word less_one_word advanced_words served_memory memory_transfer transfer_of granted top_level arbitrate_of lent_verdict act_of step_of history state_after counted until last_answer run_answer run_of
 memory-examples = (refl, refl, refl, refl, refl)

@@ -1,4 +1,5 @@
 -- Document 02, §1: what a step does to the memory. Only an arbitration that serves a transfer into it changes it, and then one byte. Assumes nothing.
+use Rattle.std.specs.Prelude.{Ok}
 use mathlib.Core.Path.{◌≡◌, refl, sym, ap, ◌∙◌}
 use mathlib.Core.Logic.{◌≢◌, ◌⊎◌, inl, inr, ⊎_elim}
 use mathlib.Core.List.{List, [], ◌∷◌}
@@ -13,11 +14,10 @@ use Rattle.rules.specs.declared.Step.{Step}
 use Rattle.rules.specs.declared.Step.TheVariants as step
 use Rattle.rules.specs.declared.Winner.{Winner}
 use Rattle.rules.specs.declared.Winner.TheVariants as winner
-use Rattle.rules.specs.declared.Answer.{Answer}
 use Rattle.rules.specs.declared.Answer.TheVariants as answer
 use Rattle.rules.specs.Image.{Image, Memory, at, in_service}
 use Rattle.rules.specs.Channels.{dcpr_byte, data_byte}
-use Rattle.rules.specs.Outcomes.{State, state, Outcome, alone}
+use Rattle.rules.specs.Outcomes.{State, state, Outcome, alone, Answered}
 use Rattle.rules.specs.Sources.{record_of}
 use Rattle.rules.specs.Requests.{winner_of}
 use Rattle.rules.specs.Transfer.{pair_of, finished, served, register_transfer, address_pair_of, moved_memory, less_one_word, served_memory, memory_transfer, transfer_of}
@@ -30,11 +30,11 @@ use native.Mathlib.Nat.{suc-ne-zero}
 use Rattle.rules.proofs.MemoryTransferLaws.{memory_address, memory_counter}
 
 -- an arbitration that serves a transfer into the memory stores one byte, the data register's, at the address
-pub record Fills (s : State) (cs : List Channel) (x : Step) (o : Outcome Answer State) : Type 0 where
+pub record Fills (s : State) (cs : List Channel) (x : Step) (o : Outcome Answered State) : Type 0 where
   pub source : ℕ
   pub ended : Bool
   pub arbitrates : x ≡ step.Arbitrate
-  pub answers : o.answer ≡ answer.Transferred source ended
+  pub answers : o.answer ≡ (Ok (answer.Transferred source ended))
   pub even : at s.image (dcpr_byte (record_of cs source)) % 2 ≡ 0
   pub inward : (record_of cs source).direction ≡ 0
   pub below : memory_address s.image (record_of cs source) < length s.memory
@@ -42,7 +42,7 @@ pub record Fills (s : State) (cs : List Channel) (x : Step) (o : Outcome Answer 
 
 module _ (s : State) (cs : List Channel) where
   -- the memory stays, or one byte is stored
-  abbrev OneByte : Step → Outcome Answer State → Type 0
+  abbrev OneByte : Step → Outcome Answered State → Type 0
   OneByte x o = (o.left.memory ≡ s.memory) ⊎ Fills s cs x o
 
   transfer_fills : (w : ℕ) → OneByte step.Arbitrate (transfer_of s (record_of cs w) w)

@@ -1,5 +1,6 @@
 -- Document 02, §1, read a second time: when a transfer with the memory is refused, and what a served request moves, counts, answers and leaves.
 -- Assumes nothing.
+use Rattle.std.specs.Prelude.{Ok}
 use mathlib.Core.Path.{◌≡◌, refl, sym, ap, ◌∙◌}
 use mathlib.Core.Logic.{◌≢◌, ◌⊎◌, inl, inr, ⊎_elim}
 use mathlib.Core.Bool.{true, false, not, ◌&&◌}
@@ -10,12 +11,11 @@ use lib.ListN.{length, set, length-set}
 use lib.Seq.{get_or-set_same, get_or-set_other}
 use borrow.Author.Tests.{lt-ltb, le-ltb, ltb-true, ltb-false, eqb-false, eq-eqb, ne_eqb}
 use Rattle.rules.specs.declared.Channel.{Channel}
-use Rattle.rules.specs.declared.Answer.{Answer}
 use Rattle.rules.specs.declared.Answer.TheVariants as answer
 use Rattle.rules.specs.declared.Refusal.TheVariants as refusal
 use Rattle.rules.specs.Image.{Image, image_length, at, has, bit_of}
 use Rattle.rules.specs.Channels.{idcr_byte, dcpr_byte, dapr_byte, data_byte, IP, IM}
-use Rattle.rules.specs.Outcomes.{State, Outcome, refuse}
+use Rattle.rules.specs.Outcomes.{State, Outcome, refuse, Answered}
 use Rattle.rules.specs.Transfer.{pair_of, finished, address_pair_of, word_at, put_word, moved_memory, one_more_word, less_one_word, advanced_words, served_memory, memory_transfer}
 use Rattle.rules.proofs.Bools.{cond_elim, or_r, true_or}
 use Rattle.rules.proofs.ChannelLaws.{OnPage}
@@ -143,7 +143,7 @@ module _ (lent : State) (c : Channel) (s : ℕ) (r : Stands c) (long : length le
   transferred = advanced_words moved.image p n a count
 
   -- what is answered and left at the end
-  abbrev pub done : Outcome Answer State
+  abbrev pub done : Outcome Answered State
   done = served_memory lent c s p n a count
 
   moved_length : length moved.image ≡ image_length
@@ -229,9 +229,9 @@ module _ (lent : State) (c : Channel) (s : ℕ) (r : Stands c) (long : length le
   word-ended h = ended-one ((count + 65535) % 65536) count (λ e. omega arith) (λ e. omega arith)
 
   -- the answer: the block has ended exactly if the counter was 1
-  pub memory-answer : count < 65536 → done.answer ≡ answer.Transferred s (eqb count 1)
+  pub memory-answer : count < 65536 → done.answer ≡ (Ok (answer.Transferred s (eqb count 1)))
   unfolding served_memory finished
-  memory-answer h = ap (answer.Transferred s) (word-ended h)
+  memory-answer h = ap ((λ x1. Ok (answer.Transferred s x1))) (word-ended h)
 
   -- IDCR before the end's part is as it was
   idcr-kept : at transferred (idcr_byte c) ≡ at m (idcr_byte c)

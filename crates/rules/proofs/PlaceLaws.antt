@@ -1,4 +1,5 @@
 -- Where a register number goes: what is modelled, with which bits, and that nothing else is. Assumes nothing.
+use Rattle.std.specs.Prelude.{Option, None, Some}
 use mathlib.Core.Path.{◌≡◌, refl, sym, ap, ap₂, subst, ◌∙◌}
 use mathlib.Core.Logic.{◌≢◌, ◌⊎◌, inl, inr}
 use mathlib.Core.List.{List, [], ◌∷◌}
@@ -14,11 +15,10 @@ use Rattle.bits.specs.Bits.{digit, bit}
 use Rattle.bits.proofs.Tests.{same-below}
 use Rattle.rules.specs.declared.Channel.{Channel}
 use Rattle.rules.specs.declared.Place.{Place}
-use Rattle.rules.specs.declared.Place.TheVariants.{At, Unmodelled}
 use Rattle.rules.specs.Image.{Image, at, page_byte, CICR, PPR, MODER, EITR, EIPR, EIMR, EIPLR, EIVR, NICR, MARK}
 use Rattle.rules.specs.Channels.{record_at, idcr_byte, ivr_byte, dcpr_byte, dapr_byte, data_byte, between, list_ok}
 use Rattle.rules.specs.Table.{rows, existing_bits}
-use Rattle.rules.specs.Registers.{page_of, page_zero, record_place, or_place, records_place, place_of}
+use Rattle.rules.specs.Registers.{At, page_of, page_zero, record_place, or_place, records_place, place_of}
 use Rattle.rules.proofs.Bools.{cond_elim, true_or}
 use Rattle.rules.proofs.ChannelLaws.{register_byte, register_number, register-byte, record_in_range, record_ok_lem, registers_apart}
 
@@ -59,7 +59,7 @@ unfolding place_of
 place-low m cs r h = rw (lt-ltb r 240 h) (ap (At r) (existing-bits r (omega arith)))
 
 -- nothing over R255
-pub place-over : (m : Image) (cs : List Channel) (r : ℕ) → 255 < r → place_of m cs r ≡ Unmodelled
+pub place-over : (m : Image) (cs : List Channel) (r : ℕ) → 255 < r → place_of m cs r ≡ None
 unfolding place_of
 place-over m cs r h = rw (le-ltb r 240 (omega arith), lt-leb r 255 h)
 
@@ -79,22 +79,22 @@ module _ (m : Image) (cs : List Channel) (zeroth : page_of m ≡ 0) where
       (ap₂ At (omega arith) (existing-bits r (omega arith) ∙ ap (λ (b : Bool). cond b 0xfc 0xff) (ne_eqb r PPR (omega arith))))
 
   -- and no other of R240 to R255
-  pub place_not_zero : (r : ℕ) → 240 ≤ r → (r < 242) ⊎ (247 < r) → place_of m cs r ≡ Unmodelled
+  pub place_not_zero : (r : ℕ) → 240 ≤ r → (r < 242) ⊎ (247 < r) → place_of m cs r ≡ None
   unfolding place_of page_zero
   place_not_zero r lo out =
-      rw (le-ltb r 240 lo, eq-eqb (page_of m) 0 zeroth) (cond_elim (λ (x : Place). x ≡ Unmodelled) (leb r 255) (λ _. outside out) (λ _. refl))
+      rw (le-ltb r 240 lo, eq-eqb (page_of m) 0 zeroth) (cond_elim (λ (x : Option Place). x ≡ None) (leb r 255) (λ _. outside out) (λ _. refl))
     where
-      outside : (r < 242) ⊎ (247 < r) → page_zero r ≡ Unmodelled
+      outside : (r < 242) ⊎ (247 < r) → page_zero r ≡ None
       outside (inl h) = rw (lt-leb 242 r h)
       outside (inr h) = rw (le-leb 242 r (omega arith), lt-leb r 247 h)
 
 -- ---- the records' pages
 
 -- register r of page p is none of the record's
-unnamed-place : (c : Channel) (p r : ℕ) → ((q : ℕ) → q < 5 → page_byte p r ≢ register_byte c q) → record_place c p r ≡ Unmodelled
+unnamed-place : (c : Channel) (p r : ℕ) → ((q : ℕ) → q < 5 → page_byte p r ≢ register_byte c q) → record_place c p r ≡ None
 unfolding record_place idcr_byte ivr_byte dcpr_byte dapr_byte data_byte
 unnamed-place c p r n =
-    cond_elim (λ (x : Place). x ≡ Unmodelled) (eqb p c.page)
+    cond_elim (λ (x : Option Place). x ≡ None) (eqb p c.page)
     (λ e. rw (
       off e 0 (omega arith) c.idcr refl,
       off e 1 (omega arith) c.ivr refl,
@@ -109,13 +109,13 @@ unnamed-place c p r n =
 
 -- none of any record's
 unnamed : (cs : List Channel) (p r : ℕ) → ((k q : ℕ) → k < length cs → q < 5 → page_byte p r ≢ register_byte (record_at cs k) q)
-    → records_place cs p r ≡ Unmodelled
+    → records_place cs p r ≡ None
 unfolding records_place
 unnamed [] p r n = refl
 unnamed (c ∷ cs) p r n = rw (unnamed-place c p r (λ q. n 0 q (omega arith))) (unnamed cs p r (λ k q h. n (suc k) q (omega arith)))
 
 -- the records before record k don't hide its registers
-reach : (cs : List Channel) (k p r i e : ℕ) → k < length cs → ((l : ℕ) → l < k → record_place (record_at cs l) p r ≡ Unmodelled)
+reach : (cs : List Channel) (k p r i e : ℕ) → k < length cs → ((l : ℕ) → l < k → record_place (record_at cs l) p r ≡ None)
     → record_place (record_at cs k) p r ≡ At i e → records_place cs p r ≡ At i e
 unfolding records_place
 reach [] k p r i e h before here = absurd (not-suc-le-zero h)
@@ -153,11 +153,11 @@ named_place c (suc q) h apart =
 
 -- with a page other than 0 selected, a register that is none of any record's is not modelled
 pub place-unnamed : (m : Image) (cs : List Channel) (r : ℕ) → page_of m ≢ 0 → 240 ≤ r
-    → ((k q : ℕ) → k < length cs → q < 5 → page_byte (page_of m) r ≢ register_byte (record_at cs k) q) → place_of m cs r ≡ Unmodelled
+    → ((k q : ℕ) → k < length cs → q < 5 → page_byte (page_of m) r ≢ register_byte (record_at cs k) q) → place_of m cs r ≡ None
 unfolding place_of
 place-unnamed m cs r other lo n =
     rw (le-ltb r 240 lo, ne_eqb (page_of m) 0 other)
-    (cond_elim (λ (x : Place). x ≡ Unmodelled) (leb r 255) (λ _. unnamed cs (page_of m) r n) (λ _. refl))
+    (cond_elim (λ (x : Option Place). x ≡ None) (leb r 255) (λ _. unnamed cs (page_of m) r n) (λ _. refl))
 
 -- ---- where a place is
 
@@ -165,13 +165,13 @@ place-unnamed m cs r other lo n =
 abbrev pub ByteOf : ℕ → ℕ → ℕ → Type 0
 ByteOf p r i = ((r < 240) × (i ≡ r)) ⊎ ((240 ≤ r) × (r ≤ 255) × (i ≡ page_byte p r))
 
-abbrev Stands : ℕ → ℕ → Place → Type 0
-Stands p r (At i e) = ByteOf p r i
-Stands p r Unmodelled = Unit {0}
+abbrev Stands : ℕ → ℕ → Option Place → Type 0
+Stands p r (Some its) = ByteOf p r its.byte
+Stands p r None = Unit {0}
 
-or_elim : (P : Place → Type 0) (a b : Place) → P a → P b → P (or_place a b)
-or_elim P (At i e) b x y = x
-or_elim P Unmodelled b x y = y
+or_elim : (P : Option Place → Type 0) (a b : Option Place) → P a → P b → P (or_place a b)
+or_elim P (Some its) b x y = x
+or_elim P None b x y = y
 
 zero_stands : (r : ℕ) → 240 ≤ r → r ≤ 255 → Stands 0 r (page_zero r)
 unfolding page_zero
@@ -238,10 +238,10 @@ module _ (m : Image) (cs : List Channel) (ok : list_ok cs ≡ true) where
       (named_place c q hq (λ t ht d. registers_apart cs ok k t k q hk hk ht hq (inr d)) ∙ ap (λ (x : ℕ). At x (record_bits q)) (sym (register-byte c q hq))))
 
   -- with a page that no record is on, none of R240 to R255 is modelled
-  pub place_no_record : page_of m ≢ 0 → ((k : ℕ) → k < length cs → (record_at cs k).page ≢ page_of m) → (r : ℕ) → 240 ≤ r → place_of m cs r ≡ Unmodelled
+  pub place_no_record : page_of m ≢ 0 → ((k : ℕ) → k < length cs → (record_at cs k).page ≢ page_of m) → (r : ℕ) → 240 ≤ r → place_of m cs r ≡ None
   place_no_record other n r lo = go (true_or (leb r 255))
     where
-      go : (leb r 255 ≡ true) ⊎ (leb r 255 ≡ false) → place_of m cs r ≡ Unmodelled
+      go : (leb r 255 ≡ true) ⊎ (leb r 255 ≡ false) → place_of m cs r ≡ None
       go (inr t) = place-over m cs r (leb-false r 255 t)
       go (inl t) = place-unnamed m cs r other lo (λ k q hk hq e.
           let range = record_in_range (record_at cs k) (record_ok_lem cs ok k hk) in

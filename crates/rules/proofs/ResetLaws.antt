@@ -1,4 +1,5 @@
 -- What reset leaves: by the table's row, by the bit, and by the register. Assumes nothing.
+use Rattle.std.specs.Prelude.{Ok}
 use mathlib.Core.Path.{◌≡◌, refl, sym, ap, subst, ◌∙◌}
 use mathlib.Core.Logic.{◌≢◌, ◌⊎◌, inl, inr}
 use mathlib.Core.Bool.{Bool, true, false, false≢true, cond, not, ◌&&◌, ◌||◌}
@@ -188,7 +189,7 @@ pub record AfterReset (m new : Image) : Type 0 where
   pub mark : at new MARK ≡ 0
 
 -- reset answers that it is done
-pub reset-answer : (m : Image) → (reset_of m).answer ≡ answer.Reset
+pub reset-answer : (m : Image) → (reset_of m).answer ≡ (Ok answer.Reset)
 unfolding reset_of
 reset-answer m = refl
 
@@ -249,8 +250,8 @@ module _ (m : Image) (long : length m ≡ image_length) where
   pub reset_twice : ((i : ℕ) → at m i < 256) → reset_of (reset_of m).left ≡ reset_of m
   unfolding reset_of
   reset_twice bytes =
-      ap (λ (l : Image). outcome answer.Reset (set l MARK 0)) (rows_twice row_count (omega arith) (reset_of m).left fixed)
-      ∙ ap (outcome answer.Reset) (ap (set (reset_of m).left MARK) (sym reset-mark) ∙ set-get_or (reset_of m).left MARK 0)
+      ap (λ (l : Image). outcome (Ok answer.Reset) (set l MARK 0)) (rows_twice row_count (omega arith) (reset_of m).left fixed)
+      ∙ ap (outcome (Ok answer.Reset)) (ap (set (reset_of m).left MARK) (sym reset-mark) ∙ set-get_or (reset_of m).left MARK 0)
     where
       fixed : (k : ℕ) → k < row_count → reset_byte (row_at k) (at (reset_of m).left (row_place k)) ≡ at (reset_of m).left (row_place k)
       fixed k h = ap (reset_byte (row_at k)) (reset-row k h) ∙ byte_twice k (at m (row_place k)) h (bytes (row_place k)) ∙ sym (reset-row k h)

@@ -1,5 +1,6 @@
 -- Document 01's return, read a second time: what it changes and leaves in each mode, and that it undoes an acknowledgement.
 -- The return from the top level is in TopLevelLaws, the restored level in RestoredLaws. Assumes nothing.
+use Rattle.std.specs.Prelude.{Ok}
 use mathlib.Core.Path.{◌≡◌, refl, sym, ap, ◌∙◌}
 use mathlib.Core.Logic.{◌≢◌, ◌⊎◌, inl, inr}
 use mathlib.Core.List.{List}
@@ -24,7 +25,7 @@ use Rattle.rules.proofs.RestoredLaws.{restored_le, restored_is, restored_none}
 -- ---- what the step answers and leaves
 
 -- a return answers nothing more,
-pub return_answer : (m : Image) → (return_of m).answer ≡ answer.Returned
+pub return_answer : (m : Image) → (return_of m).answer ≡ (Ok answer.Returned)
 unfolding return_of
 return_answer m = refl
 

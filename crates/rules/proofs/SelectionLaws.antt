@@ -1,4 +1,5 @@
 -- Document 01's triggers, read a second time: which bits each selects, and which are refused. Assumes nothing.
+use Rattle.std.specs.Prelude.{Err}
 use mathlib.Core.Path.{◌≡◌, refl, ap}
 use mathlib.Core.Logic.{◌≢◌, ◌⊎◌, inl, inr}
 use mathlib.Core.List.{List}
@@ -16,9 +17,8 @@ use Rattle.rules.specs.declared.Trigger.{Trigger}
 use Rattle.rules.specs.declared.Trigger.TheVariants as trigger
 use Rattle.rules.specs.declared.Refusal.{Refusal}
 use Rattle.rules.specs.declared.Refusal.TheVariants as refusal
-use Rattle.rules.specs.declared.Verdict.TheVariants as verdict
 use Rattle.rules.specs.Image.{Image, at, has, bit_of, EITR, EIVR, TLIS, IAOS}
-use Rattle.rules.specs.Outcomes.{refuses}
+use Rattle.rules.specs.Outcomes.{is_refused, accepted}
 use Rattle.rules.specs.Sources.{sources}
 use Rattle.rules.specs.Triggers.{trigger_verdict, edge, selects, selects_top}
 use Rattle.rules.specs.Demand3.{within}
@@ -84,32 +84,32 @@ module _ (m : Image) where
 
 module _ (cs : List Channel) where
   -- pins 0 to 7 in directions 0 and 1 are accepted,
-  pub pin_accepted : (k d : ℕ) → k < 8 → d < 2 → trigger_verdict cs (trigger.Pin k d) ≡ verdict.Accepted
+  pub pin_accepted : (k d : ℕ) → k < 8 → d < 2 → trigger_verdict cs (trigger.Pin k d) ≡ accepted
   unfolding trigger_verdict
   pin_accepted k d h g = rw (le-ltb 7 k (omega arith), le-ltb 1 d (omega arith))
 
   -- and no other
-  pub pin_refused : (k d : ℕ) → (8 ≤ k) ⊎ (2 ≤ d) → trigger_verdict cs (trigger.Pin k d) ≡ verdict.Refused refusal.Number
+  pub pin_refused : (k d : ℕ) → (8 ≤ k) ⊎ (2 ≤ d) → trigger_verdict cs (trigger.Pin k d) ≡ (Err refusal.Number)
   unfolding trigger_verdict
   pin_refused k d (inl h) = rw (lt-ltb 7 k (omega arith))
   pin_refused k d (inr h) = rw (lt-ltb 1 d (omega arith), or-true (ltb 7 k))
 
   -- an NMI in directions 0 and 1
   pub nmi_verdict : (d : ℕ)
-      → (d < 2 → trigger_verdict cs (trigger.Nmi d) ≡ verdict.Accepted)
-      × (2 ≤ d → trigger_verdict cs (trigger.Nmi d) ≡ verdict.Refused refusal.Number)
+      → (d < 2 → trigger_verdict cs (trigger.Nmi d) ≡ accepted)
+      × (2 ≤ d → trigger_verdict cs (trigger.Nmi d) ≡ (Err refusal.Number))
   unfolding trigger_verdict
   nmi_verdict d = (λ h. rw (le-ltb 1 d (omega arith)), λ h. rw (lt-ltb 1 d (omega arith)))
 
   -- a request of a record that is there
   pub request_verdict : (k : ℕ)
-      → (k < length cs → trigger_verdict cs (trigger.Request k) ≡ verdict.Accepted)
-      × (length cs ≤ k → trigger_verdict cs (trigger.Request k) ≡ verdict.Refused refusal.Number)
+      → (k < length cs → trigger_verdict cs (trigger.Request k) ≡ accepted)
+      × (length cs ≤ k → trigger_verdict cs (trigger.Request k) ≡ (Err refusal.Number))
   unfolding trigger_verdict
   request_verdict k = (λ h. rw (lt-ltb k (length cs) h), λ h. rw (le-ltb k (length cs) h))
 
   -- the watchdog always, an unknown kind never
-  pub kind_verdict_lem : (trigger_verdict cs trigger.Watchdog ≡ verdict.Accepted) × (trigger_verdict cs trigger.Unknown ≡ verdict.Refused refusal.Kind)
+  pub kind_verdict_lem : (trigger_verdict cs trigger.Watchdog ≡ accepted) × (trigger_verdict cs trigger.Unknown ≡ (Err refusal.Kind))
   unfolding trigger_verdict
   kind_verdict_lem = (refl, refl)
 
@@ -120,16 +120,16 @@ pub selected-is : (b : Bool) (k s : ℕ) → cond b (some k) none ≡ some s →
 selected-is true k s e = cc
 selected-is false k s e = impossible (cc)
 
-not_refused : (b : Bool) (r : Refusal) → cond b (verdict.Refused r) verdict.Accepted ≡ verdict.Accepted → b ≡ false
-not_refused true r e = absurd (true≢false (ap refuses e))
+not_refused : (b : Bool) (r : Refusal) → cond b (Err r) accepted ≡ accepted → b ≡ false
+not_refused true r e = absurd (true≢false (ap is_refused e))
 not_refused false r e = refl
 
-accepted_if : (b : Bool) (r : Refusal) → cond b verdict.Accepted (verdict.Refused r) ≡ verdict.Accepted → b ≡ true
+accepted_if : (b : Bool) (r : Refusal) → cond b accepted (Err r) ≡ accepted → b ≡ true
 accepted_if true r e = refl
-accepted_if false r e = absurd (true≢false (ap refuses e))
+accepted_if false r e = absurd (true≢false (ap is_refused e))
 
 -- an accepted trigger selects a source that there is
-pub selected-there : (m : Image) (cs : List Channel) (t : Trigger) → trigger_verdict cs t ≡ verdict.Accepted → (s : ℕ) → selects m t ≡ some s → s < sources cs
+pub selected-there : (m : Image) (cs : List Channel) (t : Trigger) → trigger_verdict cs t ≡ accepted → (s : ℕ) → selects m t ≡ some s → s < sources cs
 unfolding selects trigger_verdict sources
 selected-there m cs (trigger.Pin k d) v s e =
     omega (

@@ -1,5 +1,6 @@
 -- Demand 3's premises can be met, and its bound is met exactly: a list of calls that needs H + E + 1 arbitrations. What must not count is there too:
 -- a masked source above ours and one that ours outranks, both pending and triggered, a trigger of ours, and a refused one. Assumes nothing.
+use Rattle.std.specs.Prelude.{Ok}
 use mathlib.Core.Path.{◌≡◌, refl, ap₂, ◌∙◌}
 use mathlib.Core.Bool.{true, false, not}
 use mathlib.Core.List.{List, [], ◌∷◌, ◌++◌}
@@ -14,8 +15,7 @@ use Rattle.rules.specs.declared.Channel.{Channel}
 use Rattle.rules.specs.declared.Step.{Step}
 use Rattle.rules.specs.declared.Step.TheVariants as step
 use Rattle.rules.specs.declared.Trigger.TheVariants as trigger
-use Rattle.rules.specs.declared.Waited.TheVariants as waited
-use Rattle.rules.specs.declared.Bounded.TheVariants as bounded
+use Rattle.rules.specs.declared.WaitEnd.TheVariants as wait
 use Rattle.rules.specs.Image.{Image, page_byte, put, CICR, EIPR, EIMR, EIPLR}
 use Rattle.rules.specs.Channels.{idcr_byte, ivr_byte, dcpr_byte, dapr_byte, data_byte, records_ok, member, distinct, all_bytes, list_ok}
 use Rattle.rules.specs.Outcomes.{alone}
@@ -27,7 +27,7 @@ use Rattle.rules.specs.Return.{returned, return_of}
 use Rattle.rules.specs.Steps.{lent_verdict, act_of, step_of}
 use Rattle.rules.specs.Runs.{until, last_answer, state_after, wait_events, wait_answer, wait_verdict, wait_of, Event, any_event, counted, history, acknowledged_in, arbitrations_in}
 use Rattle.rules.specs.Demand3.{outranks, rival, count_below, pending_of, H, E, Start, OnlyCalls}
-use Rattle.rules.specs.Bounds.{bound_of}
+use Rattle.rules.specs.Bounds.{bound_of, bound_at}
 use Rattle.rules.specs.Examples.{image, channel, ◌↤◌}
 use Rattle.rules.proofs.Histories.{history_chain}
 use Rattle.rules.proofs.Demand3.{demand3}
@@ -97,10 +97,10 @@ demand3-tight =
     (omega (arith, tight.2, tight.3, tight.6))
 
 -- the bound that is answered for it is H + E + 1
-pub bound-tight : bound_of start channels ours steps ≡ bounded.Within 2 2 5
+pub bound-tight : bound_of start channels ours steps ≡ (Ok (bound_at 2 2 5))
 bound-tight =
     bound-given start channels ours steps tight.0 tight.1
-    ∙ ap₂ (λ (h e : ℕ). bounded.Within h e (h + e + 1)) tight.2 tight.3
+    ∙ ap₂ (λ (h e : ℕ). (Ok (bound_at h e (h + e + 1)))) tight.2 tight.3
 
 -- the same as a wait report, without the refused request, which would end it: acknowledged with H + E + 1 arbitrations
 abbrev pub accepted : List Step
@@ -108,6 +108,6 @@ accepted = take 6 steps ++ drop 7 steps
 
 pub wait-tight : OnlyCalls (wait_events (alone start) channels ours accepted)
     × (H start channels ours + E start channels ours (wait_events (alone start) channels ours accepted) ≡ 4)
-    × ((wait_of (alone start) channels ours accepted).answer ≡ waited.Acknowledged 5)
+    × ((wait_of (alone start) channels ours accepted).answer ≡ (Ok (wait.Acknowledged 5)))
 unfolding start image digit bit put_bit page_byte put idcr_byte ivr_byte dcpr_byte dapr_byte data_byte records_ok member distinct all_bytes list_ok sources pending_bit pending unmasked dma_enabled external_level level trigger_verdict selects selects_top source_effect raise_source top_effect raise_top fired trigger_of request_of eligible is_at won_by candidate first winner_of_kind winner_at_level winner_of vector_of cleared acknowledged granted top_level arbitrate_of returned return_of lent_verdict act_of step_of history outranks rival count_below pending_of any_event counted until last_answer state_after wait_answer wait_verdict wait_of
 wait-tight = (none_calls (wait_events (alone start) channels ours accepted) refl refl, refl, refl)

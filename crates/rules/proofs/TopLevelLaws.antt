@@ -1,5 +1,6 @@
 -- Document 01's order of an arbitration and its top level, read a second time: the mark comes first; when the top level is entered, what that and
 -- its return change and leave; what is left to the winner. Assumes nothing.
+use Rattle.std.specs.Prelude.{Ok}
 use mathlib.Core.Path.{◌≡◌, sym, ap, ◌∙◌}
 use mathlib.Core.Logic.{◌≢◌, inr}
 use mathlib.Core.List.{List}
@@ -28,7 +29,7 @@ use Rattle.rules.proofs.ImageLaws.{put-length, at-put_other, has-put_same, has-p
 -- ---- the mark, the top level, and what is left to the winner
 
 -- rule 1: with the mark set an arbitration answers Nothing and changes nothing, whatever is pending
-pub mark-first : (s : State) (cs : List Channel) → in_service s.image ≡ true → arbitrate_of s cs ≡ outcome answer.Nothing s
+pub mark-first : (s : State) (cs : List Channel) → in_service s.image ≡ true → arbitrate_of s cs ≡ outcome (Ok answer.Nothing) s
 unfolding arbitrate_of
 mark-first s cs t = rw t
 
@@ -43,10 +44,10 @@ top-level_when m = (λ p. rw p, λ p n. rw (p, n), λ p n. rw (p, n) (and_comm (
 -- rules 3 to 5, with neither: where nobody has won nothing changes; record k, as source 8 + k, gets its transfer;
 -- an interrupt is answered with its source, level and vector, and acknowledged
 pub winner_gets : (s : State) (cs : List Channel) → let m = s.image in in_service m ≡ false → top_level m ≡ false
-    → (winner_of m cs ≡ winner.Nobody → arbitrate_of s cs ≡ outcome answer.Nothing s)
+    → (winner_of m cs ≡ winner.Nobody → arbitrate_of s cs ≡ outcome (Ok answer.Nothing) s)
     × ((k : ℕ) → winner_of m cs ≡ winner.Dma (8 + k) → arbitrate_of s cs ≡ transfer_of s (record_at cs k) (8 + k))
     × ((w l : ℕ) → winner_of m cs ≡ winner.Interrupt w l
-    → arbitrate_of s cs ≡ outcome (answer.Interrupt w l (vector_of m cs w)) (state (acknowledged m cs w l) s.memory))
+    → arbitrate_of s cs ≡ outcome (Ok (answer.Interrupt w l (vector_of m cs w))) (state (acknowledged m cs w l) s.memory))
 unfolding arbitrate_of granted
 winner_gets s cs i t = (
   λ w. rw (i, t, w),
@@ -60,7 +61,7 @@ module _ (s : State) (cs : List Channel) (long : length s.image ≡ image_length
   abbrev m : Image
   m = s.image
 
-  entered : arbitrate_of s cs ≡ outcome answer.TopLevel (state (entered_top m) s.memory)
+  entered : arbitrate_of s cs ≡ outcome (Ok answer.TopLevel) (state (entered_top m) s.memory)
   unfolding arbitrate_of
   entered = rw (idle, top)
 
@@ -96,7 +97,7 @@ module _ (s : State) (cs : List Channel) (long : length s.image ≡ image_length
   entered-mark = rw entered (get_or-set_same (put m TLIP false) MARK 1 0 (rw (put-length m TLIP false, long) (lit< tt)))
 
   -- and it is answered so
-  pub entered-answer : (arbitrate_of s cs).answer ≡ answer.TopLevel
+  pub entered-answer : (arbitrate_of s cs).answer ≡ (Ok answer.TopLevel)
   entered-answer = rw entered
 
   entered-length : length (arbitrate_of s cs).left.image ≡ image_length

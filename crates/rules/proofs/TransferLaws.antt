@@ -1,5 +1,6 @@
 -- Document 01's DMA transfer with the register file, read a second time: when it is refused, and what a served request moves, counts, answers and leaves.
 -- Assumes nothing.
+use Rattle.std.specs.Prelude.{Ok}
 use mathlib.Core.Path.{◌≡◌, refl, sym, ap, ◌∙◌}
 use mathlib.Core.Logic.{◌≢◌, ◌⊎◌, inl, inr}
 use mathlib.Core.List.{List}
@@ -12,12 +13,11 @@ use lib.ListN.{length, set, length-set}
 use lib.Seq.{get_or-set_same, get_or-set_other}
 use borrow.Author.Tests.{lt-ltb, le-ltb, eqb-true, eqb-false, eq-eqb, ne_eqb}
 use Rattle.rules.specs.declared.Channel.{Channel}
-use Rattle.rules.specs.declared.Answer.{Answer}
 use Rattle.rules.specs.declared.Answer.TheVariants as answer
 use Rattle.rules.specs.declared.Refusal.TheVariants as refusal
 use Rattle.rules.specs.Image.{Image, image_length, at, has, put, bit_of}
 use Rattle.rules.specs.Channels.{record_at, idcr_byte, dcpr_byte, data_byte, list_ok, IP, DM, IM}
-use Rattle.rules.specs.Outcomes.{State, Outcome, refuse}
+use Rattle.rules.specs.Outcomes.{State, Outcome, refuse, Answered}
 use Rattle.rules.specs.Transfer.{pair_of, moved_byte, less_one, advanced, settled, finished, served, register_transfer, memory_transfer, transfer_of}
 use Rattle.rules.proofs.Bools.{cond_elim, cond_and, or_r}
 use Rattle.rules.proofs.ImageLaws.{put-length, at-put_other, has-put_same, has-put_bit, has-put_other}
@@ -181,7 +181,7 @@ module _ (lent : State) (c : Channel) (s : ℕ) (r : Stands c) (long : length le
   transferred = advanced moved (pair_of m c) (address_of m c) (counter_of m c)
 
   -- what is answered and left at the end
-  abbrev pub done : Outcome Answer State
+  abbrev pub done : Outcome Answered State
   done = served lent c s (pair_of m c) (address_of m c) (counter_of m c)
 
   inside : (j : ℕ) → j < image_length → j < length moved
@@ -238,9 +238,9 @@ module _ (lent : State) (c : Channel) (s : ℕ) (r : Stands c) (long : length le
       transfer_frame j (λ e. omega arith) (λ e. omega (arith, next_register)) (λ e. off (rw e r.idcr_page)) (λ d e. omega arith) (λ d e. off (rw e r.data_page))
 
   -- the answer: the block has ended exactly if the counter was 1
-  pub transfer-answer : counter_of m c < 256 → done.answer ≡ answer.Transferred s (eqb (counter_of m c) 1)
+  pub transfer-answer : counter_of m c < 256 → done.answer ≡ (Ok (answer.Transferred s (eqb (counter_of m c) 1)))
   unfolding served finished
-  transfer-answer h = ap (answer.Transferred s) (byte-ended (counter_of m c) h)
+  transfer-answer h = ap ((λ x1. Ok (answer.Transferred s x1))) (byte-ended (counter_of m c) h)
 
   -- IDCR before the end's part is as it was
   idcr-kept : at transferred (idcr_byte c) ≡ at m (idcr_byte c)

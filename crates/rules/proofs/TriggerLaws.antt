@@ -1,5 +1,6 @@
 -- Document 01's triggers, read a second time: what a trigger answers for the bits that it selects, what it changes and what it leaves.
 -- Assumes nothing.
+use Rattle.std.specs.Prelude.{Ok, Err}
 use mathlib.Core.Path.{◌≡◌, refl, sym, ap, ◌∙◌}
 use mathlib.Core.Logic.{◌≢◌, inl}
 use mathlib.Core.List.{List}
@@ -17,10 +18,9 @@ use Rattle.rules.specs.declared.Effect.{Effect}
 use Rattle.rules.specs.declared.Effect.TheVariants as effect
 use Rattle.rules.specs.declared.Answer.TheVariants as answer
 use Rattle.rules.specs.declared.Refusal.{Refusal}
-use Rattle.rules.specs.declared.Verdict.TheVariants as verdict
 use Rattle.rules.specs.Image.{Image, image_length, at, has, put, Bit, CICR, EIPR, TLIP}
 use Rattle.rules.specs.Channels.{record_at, idcr_byte, list_ok}
-use Rattle.rules.specs.Outcomes.{refuse}
+use Rattle.rules.specs.Outcomes.{refuse, accepted}
 use Rattle.rules.specs.Sources.{sources, pending_bit, pending}
 use Rattle.rules.specs.Triggers.{trigger_verdict, selects, selects_top, effect_on, source_effect, raise_source, top_effect, raise_top, fired, trigger_of}
 use Rattle.rules.specs.Demand3.{within}
@@ -100,12 +100,12 @@ top-says m false = refl
 -- ---- the laws
 
 -- a refused trigger answers its refusal, and changes nothing
-pub trigger-refused : (m : Image) (cs : List Channel) (t : Trigger) (r : Refusal) → trigger_verdict cs t ≡ verdict.Refused r → trigger_of m cs t ≡ refuse r m
+pub trigger-refused : (m : Image) (cs : List Channel) (t : Trigger) (r : Refusal) → trigger_verdict cs t ≡ (Err r) → trigger_of m cs t ≡ refuse r m
 unfolding trigger_of fired
 trigger-refused m cs t r v = rw v
 
 module _ (m : Image) (cs : List Channel) (t : Trigger) (long : length m ≡ image_length) (ok : list_ok cs ≡ true)
-    (accepted : trigger_verdict cs t ≡ verdict.Accepted) where
+    (accepted : trigger_verdict cs t ≡ accepted) where
   abbrev raised : Image
   raised = raise_source m cs (selects m t)
 
@@ -117,7 +117,7 @@ module _ (m : Image) (cs : List Channel) (t : Trigger) (long : length m ≡ imag
   there = selected-there m cs t accepted
 
   -- the answer: NotSelected, Raised or Merged for the maskable bit, and for TLIP
-  pub trigger-answer : (e : Effect) × (f : Effect) × ((trigger_of m cs t).answer ≡ answer.Triggered e f)
+  pub trigger-answer : (e : Effect) × (f : Effect) × ((trigger_of m cs t).answer ≡ (Ok (answer.Triggered e f)))
       × Says e (within (λ j. true) (selects m t)) (within (pending m cs) (selects m t)) × Says f (selects_top m t) (has m TLIP)
   unfolding trigger_of fired
   trigger-answer =

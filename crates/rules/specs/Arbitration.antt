@@ -1,13 +1,12 @@
 -- Document 01, "Arbitration": the mark, the top level, and what the winner gets. Assumes nothing.
-use Rattle.std.specs.Prelude.{Bool, true, false, cond, ◌&&◌, ◌||◌, List, ℕ, ◌+◌, ◌*◌, ◌/◌, leb, set}
+use Rattle.std.specs.Prelude.{Bool, true, false, cond, ◌&&◌, ◌||◌, List, ℕ, ◌+◌, ◌*◌, ◌/◌, leb, set, Ok}
 use Rattle.rules.specs.declared.Channel.{Channel}
-use Rattle.rules.specs.declared.Answer.{Answer}
 use Rattle.rules.specs.declared.Answer.TheVariants as answer
 use Rattle.rules.specs.declared.Winner.{Winner}
 use Rattle.rules.specs.declared.Winner.TheVariants as winner
 use Rattle.rules.specs.Image.{Image, at, has, put, put_CPL, in_service, CPL, HL, IAM, IEN, TLI, TLIP, TLNM, EIVR, MARK}
 use Rattle.rules.specs.Channels.{ivr_byte}
-use Rattle.rules.specs.Outcomes.{State, Outcome, outcome, changed}
+use Rattle.rules.specs.Outcomes.{State, Outcome, outcome, changed, Answered}
 use Rattle.rules.specs.Sources.{external, record_of, pending_bit}
 use Rattle.rules.specs.Requests.{winner_of}
 use Rattle.rules.specs.Transfer.{transfer_of}
@@ -51,16 +50,16 @@ acknowledged m cs source l = put (cleared (acknowledged_levels m l) cs source) I
 -- ---- an arbitration
 
 -- what the winner gets; a DMA request that has won may be refused with 6 or 5, and it alone concerns the memory
-unfoldable pub granted : State → List Channel → Winner → Outcome Answer State
-granted s cs winner.Nobody = outcome answer.Nothing s
+unfoldable pub granted : State → List Channel → Winner → Outcome Answered State
+granted s cs winner.Nobody = outcome (Ok answer.Nothing) s
 granted s cs (winner.Dma source) = transfer_of s (record_of cs source) source
 granted s cs (winner.Interrupt source l) =
     let m = s.image in
-    changed s (outcome (answer.Interrupt source l (vector_of m cs source)) (acknowledged m cs source l))
+    changed s (outcome (Ok (answer.Interrupt source l (vector_of m cs source))) (acknowledged m cs source l))
 
 -- rules 1 and 2, then the winner of rules 3 to 5
-unfoldable pub arbitrate_of : State → List Channel → Outcome Answer State
+unfoldable pub arbitrate_of : State → List Channel → Outcome Answered State
 arbitrate_of s cs =
     let m = s.image in
-    cond (in_service m) (outcome answer.Nothing s)
-    (cond (top_level m) (changed s (outcome answer.TopLevel (entered_top m))) (granted s cs (winner_of m cs)))
+    cond (in_service m) (outcome (Ok answer.Nothing) s)
+    (cond (top_level m) (changed s (outcome (Ok answer.TopLevel) (entered_top m))) (granted s cs (winner_of m cs)))

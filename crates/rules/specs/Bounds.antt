@@ -1,28 +1,35 @@
 -- The bound of demand 3 for one image, channel list, source and list of steps: whether the premises hold (Demand3 `Start`, `OnlyCalls`), which of them
 -- fails first, and H + E + 1 where they hold. Assumes nothing.
-use Rattle.std.specs.Prelude.{◌≡◌, Bool, false, cond, not, ◌&&◌, ◌||◌, List, [], ◌∷◌, ℕ, zero, suc, ◌+◌, ltb}
+use Rattle.std.specs.Prelude.{◌≡◌, Bool, false, cond, not, ◌&&◌, ◌||◌, List, [], ◌∷◌, ℕ, zero, suc, ◌+◌, ltb, Result, Ok, Err}
 use Rattle.std.proofs.Math.Option.{Option, none, some, get_or, map}
 use Rattle.rules.specs.declared.Channel.{Channel}
 use Rattle.rules.specs.declared.Step.{Step}
-use Rattle.rules.specs.declared.Waited.{Waited}
-use Rattle.rules.specs.declared.Bounded.{Bounded}
-use Rattle.rules.specs.declared.Bounded.TheVariants as bounded
+use Rattle.rules.specs.declared.Bound.{Bound}
+use Rattle.rules.specs.declared.NoBound.{NoBound}
+use Rattle.rules.specs.declared.NoBound.TheVariants as no_bound
 use Rattle.rules.specs.Image.{Image, has, in_service, CPL, IAM, IEN, TLI, TLNM}
 use Rattle.rules.specs.Outcomes.{State, alone, refused_or}
 use Rattle.rules.specs.Sources.{sources, pending, unmasked, dma_enabled, level}
-use Rattle.rules.specs.Runs.{Event, history, event_refused, is_arbitration, wait_verdict}
+use Rattle.rules.specs.Runs.{Event, history, event_refused, is_arbitration, wait_verdict, Waited}
 use Rattle.rules.specs.Demand3.{H, E, Start, is_call, OnlyCalls}
 use Rattle.rules.specs.Claims.{WaitWithin}
+
+-- what is answered: a bound, or why there is none
+abbrev pub Bounded : Type 0
+Bounded = Result Bound NoBound
+
+abbrev pub bound_at : ℕ → ℕ → ℕ → Bound
+bound_at outranking triggers bound = record { outranking = outranking; triggers = triggers; bound = bound }
 
 -- ---- the premises on the start, each with what is answered where it is the first that fails
 
 -- what is answered where a premise fails by this test, else what comes next
-abbrev pub failing : Bool → Bounded → Bounded → Bounded
-failing fails answered next = cond fails answered next
+abbrev pub failing : Bool → NoBound → Bounded → Bounded
+failing fails reason next = cond fails (Err reason) next
 
 -- the same by the test that it holds
-abbrev pub holding : Bool → Bounded → Bounded → Bounded
-holding holds answered next = cond holds next answered
+abbrev pub holding : Bool → NoBound → Bounded → Bounded
+holding holds reason next = cond holds next (Err reason)
 
 -- some number below n passes a test
 unfoldable pub any_below : ℕ → (ℕ → Bool) → Bool
@@ -40,17 +47,17 @@ top_level_enabled m = has m TLNM || has m TLI
 -- on the image and the list, in the order of Demand3 `Calm`
 unfoldable pub calm_premises : Image → List Channel → Bounded → Bounded
 calm_premises m cs next =
-    failing (has m IAM) bounded.Nested
-    (failing (any_dma m cs) bounded.DmaEnabled
-    (failing (top_level_enabled m) bounded.TopLevelEnabled
-    (failing (in_service m) bounded.TopLevelInService next)))
+    failing (has m IAM) no_bound.Nested
+    (failing (any_dma m cs) no_bound.DmaEnabled
+    (failing (top_level_enabled m) no_bound.TopLevelEnabled
+    (failing (in_service m) no_bound.TopLevelInService next)))
 
 -- on the source, in the order of Demand3 `Start`
 unfoldable pub source_premises : Image → List Channel → ℕ → Bounded → Bounded
 source_premises m cs ours next =
-    holding (pending m cs ours) bounded.NotPending
-    (holding (unmasked m cs ours) bounded.Masked
-    (holding (ltb (level m cs ours) (CPL m)) bounded.LevelNotAbove next))
+    holding (pending m cs ours) no_bound.NotPending
+    (holding (unmasked m cs ours) no_bound.Masked
+    (holding (ltb (level m cs ours) (CPL m)) no_bound.LevelNotAbove next))
 
 -- all of them
 abbrev pub start_premises : Image → List Channel → ℕ → Bounded → Bounded
@@ -73,14 +80,14 @@ first_from index test (e ∷ es) = cond (test e) (some index) (first_from (index
 
 -- H, E and the bound
 abbrev pub bounding : ℕ → ℕ → Bounded
-bounding outranking triggers = bounded.Within outranking triggers (outranking + triggers + 1)
+bounding outranking triggers = Ok (bound_at outranking triggers (outranking + triggers + 1))
 
 -- what is answered of the events of a list of steps from m: the first step of another kind, wherever it stands; then the first arbitration with interrupts
 -- disabled; then the bound
 unfoldable pub bound_in : Image → List Channel → ℕ → List Event → Bounded
 bound_in m cs ours es =
-    get_or (map bounded.OtherStep (first_from 0 other_step es))
-    (get_or (map bounded.InterruptsDisabled (first_from 0 disabled_step es)) (bounding (H m cs ours) (E m cs ours es)))
+    get_or (map (λ index. Err (no_bound.OtherStep index)) (first_from 0 other_step es))
+    (get_or (map (λ index. Err (no_bound.InterruptsDisabled index)) (first_from 0 disabled_step es)) (bounding (H m cs ours) (E m cs ours es)))
 
 -- ---- the bound
 
@@ -90,24 +97,14 @@ accepted_bound m cs ours xs = start_premises m cs ours (bound_in m cs ours (hist
 
 -- refused with 1, then 2, then 4, as a wait report without a memory is; then the first premise on the start that fails; then those on the steps; then the bound
 unfoldable pub bound_of : Image → List Channel → ℕ → List Step → Bounded
-bound_of m cs ours xs = refused_or (wait_verdict (alone m) cs ours) bounded.Refused (accepted_bound m cs ours xs)
+bound_of m cs ours xs = refused_or (wait_verdict (alone m) cs ours) (λ reason. Err (no_bound.Refused reason)) (accepted_bound m cs ours xs)
 
 -- ---- what an answer says
 
 -- P of H, E and the bound where one is answered, else Q
 abbrev pub where_bounded : (ℕ → ℕ → ℕ → Type 0) → Type 0 → Bounded → Type 0
-where_bounded P Q (bounded.Refused reason) = Q
-where_bounded P Q bounded.Nested = Q
-where_bounded P Q bounded.DmaEnabled = Q
-where_bounded P Q bounded.TopLevelEnabled = Q
-where_bounded P Q bounded.TopLevelInService = Q
-where_bounded P Q bounded.NotPending = Q
-where_bounded P Q bounded.Masked = Q
-where_bounded P Q bounded.LevelNotAbove = Q
-where_bounded P Q (bounded.OtherStep index) = Q
-where_bounded P Q (bounded.Changed basis index) = Q
-where_bounded P Q (bounded.InterruptsDisabled index) = Q
-where_bounded P Q (bounded.Within outranking triggers bound) = P outranking triggers bound
+where_bounded P Q (Ok given) = P given.outranking given.triggers given.bound
+where_bounded P Q (Err reason) = Q
 
 -- a bound is answered exactly where demand 3's premises hold of the start and the steps; it is H + E + 1
 abbrev pub BoundSays : State → List Channel → ℕ → List Step → Bounded → Type 0

@@ -1,18 +1,17 @@
 -- A list of calls, each a single step, a run or a wait report, each on the image that the call before it left, with the same channel list and a memory of its own.
 -- Where they keep their promises, demand 3, Handlers and EnabledHandlers hold of all the steps that they did, after each call. Assumes nothing.
-use Rattle.std.specs.Prelude.{◌≡◌, List, [], ◌∷◌, ◌++◌, ℕ, take}
+use Rattle.std.specs.Prelude.{◌≡◌, List, [], ◌∷◌, ◌++◌, ℕ, take, Option, Some, None, Err}
 use Rattle.rules.specs.declared.Channel.{Channel}
 use Rattle.rules.specs.declared.Step.{Step}
-use Rattle.rules.specs.declared.Answer.TheVariants as answer
-use Rattle.rules.specs.declared.Ran.TheVariants as ran
-use Rattle.rules.specs.declared.Waited.TheVariants as waited
+use Rattle.rules.specs.declared.RunRefusal.TheVariants as run_refused
+use Rattle.rules.specs.declared.WaitRefusal.TheVariants as wait_refused
 use Rattle.rules.specs.declared.Flat.{Flat}
 use Rattle.rules.specs.Image.{Image, Memory}
-use Rattle.rules.specs.Outcomes.{State, state, refused_or}
+use Rattle.rules.specs.Outcomes.{State, state, Answered, refused_or}
 use Rattle.rules.specs.Steps.{lent_verdict}
 use Rattle.rules.specs.Runs.{Event, history, last_answer, run_answer, run_history, wait_answer, wait_verdict, wait_history}
 use Rattle.rules.specs.Claims.{ClaimsOf}
-use Rattle.rules.specs.Encodings.{steps_of, told, told_run, told_wait}
+use Rattle.rules.specs.Encodings.{steps_of, tell, told, told_run, told_wait}
 use Rattle.rules.specs.Promises.{Does, Runs, Waits, Tells}
 
 -- what was asked of a call: a step, a run of words, or a wait report for a source over words
@@ -48,12 +47,17 @@ events_of before cs (step x) = history before cs (x ∷ [])
 events_of before cs (run words) = run_history before cs (steps_of words)
 events_of before cs (wait source words) = wait_history before cs source (steps_of words)
 
+-- of the answer of the last of some events, if any
+abbrev pub told_by : Option Answered → Flat
+told_by None = tell 0 0 0 0
+told_by (Some answered) = told answered
+
 -- the numbers that its events tell
 abbrev pub numbers_of : State → List Channel → Asked → Flat
-numbers_of before cs (step x) = told (last_answer answer.NoStep (events_of before cs (step x)))
-numbers_of before cs (run words) = told_run (refused_or (lent_verdict before cs) ran.Refused (run_answer (events_of before cs (run words))))
+numbers_of before cs (step x) = told_by (last_answer None (events_of before cs (step x)))
+numbers_of before cs (run words) = told_run (refused_or (lent_verdict before cs) (λ reason. Err (run_refused.Before reason)) (run_answer (events_of before cs (run words))))
 numbers_of before cs (wait source words) =
-    told_wait (refused_or (wait_verdict before cs source) waited.Refused (wait_answer source (events_of before cs (wait source words))))
+    told_wait (refused_or (wait_verdict before cs source) (λ reason. Err (wait_refused.Before reason)) (wait_answer source (events_of before cs (wait source words))))
 
 -- each of the calls answered what its events tell
 abbrev pub AllTold : Image → List Channel → List Made → Type 0

@@ -1,14 +1,14 @@
 -- Demand 3, Handlers and EnabledHandlers stated of given events, such as a run, a wait report or several calls do; of every run and wait report; and what a wait
 -- report then answers. Assumes nothing.
-use Rattle.std.specs.Prelude.{◌≡◌, Bool, true, false, List, ℕ, ◌+◌, ◌≤◌, ◌<◌, take}
+use Rattle.std.specs.Prelude.{◌≡◌, Bool, true, false, List, ℕ, ◌+◌, ◌≤◌, ◌<◌, take, Ok, Err}
 use Rattle.rules.specs.declared.Channel.{Channel}
 use Rattle.rules.specs.declared.Step.{Step}
-use Rattle.rules.specs.declared.Waited.{Waited}
-use Rattle.rules.specs.declared.Waited.TheVariants as waited
+use Rattle.rules.specs.declared.WaitEnd.TheVariants as wait
+use Rattle.rules.specs.declared.WaitRefusal.TheVariants as wait_refused
 use Rattle.rules.specs.Image.{Image, Fits}
 use Rattle.rules.specs.Outcomes.{State}
 use Rattle.rules.specs.Sources.{pending}
-use Rattle.rules.specs.Runs.{Event, acknowledged_in, run_of, run_history, wait_of, wait_history}
+use Rattle.rules.specs.Runs.{Event, acknowledged_in, run_of, run_history, wait_of, wait_history, Waited}
 use Rattle.rules.specs.Demand3.{H, E, Start, OnlyCalls, InTime, Kept}
 use Rattle.rules.specs.Handlers.{EAndRaised, AllMay, Handles, up_to, InEnabledTime}
 
@@ -57,10 +57,10 @@ RunsClaimed = (s : State) (cs : List Channel) (xs : List Step) → ClaimsOf s.im
 -- what it may answer under a bound, with ours pending still after it or not: acknowledged by arbitration `bound` at the latest; ended or refused at a step with
 -- fewer, and ours pending; never refused before a step
 abbrev pub WaitWithin : ℕ → Waited → Bool → Type 0
-WaitWithin bound (waited.Refused reason) still = ⊥
-WaitWithin bound (waited.RefusedAt reason index arbitrations) still = (arbitrations < bound) × (still ≡ true)
-WaitWithin bound (waited.Ended arbitrations) still = (arbitrations < bound) × (still ≡ true)
-WaitWithin bound (waited.Acknowledged arbitrations) still = arbitrations ≤ bound
+WaitWithin bound (Err (wait_refused.Before reason)) still = ⊥
+WaitWithin bound (Err (wait_refused.At reason index arbitrations)) still = (arbitrations < bound) × (still ≡ true)
+WaitWithin bound (Ok (wait.Ended arbitrations)) still = (arbitrations < bound) × (still ≡ true)
+WaitWithin bound (Ok (wait.Acknowledged arbitrations)) still = arbitrations ≤ bound
 
 -- of a wait report for ours over xs that answers w and leaves `after`: the claims, for every source; and, with a memory that isn't refused, what it answers, by
 -- demand 3 and by Handlers

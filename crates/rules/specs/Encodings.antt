@@ -1,6 +1,8 @@
 -- A channel list as bytes, steps as words and answers as numbers. They are ours, but for the refusals' numbers and the top level's vector 04h, which document 01
 -- gives. Assumes nothing.
-use Rattle.std.specs.Prelude.{cond, List, [], ◌∷◌, ℕ, zero, suc, ◌/◌, ◌%◌, ◌^◌, eqb, length, get_or, drop, replicate}
+use Rattle.rules.specs.Bounds.{Bounded}
+use Rattle.rules.specs.Outcomes.{Verdict, Answered}
+use Rattle.std.specs.Prelude.{cond, List, [], ◌∷◌, ℕ, zero, suc, ◌/◌, ◌%◌, ◌^◌, eqb, length, get_or, drop, replicate, Option, Some, None, Ok, Err}
 use Rattle.rules.specs.declared.Channel.{Channel}
 use Rattle.rules.specs.declared.Trigger.{Trigger}
 use Rattle.rules.specs.declared.Trigger.TheVariants as trigger
@@ -8,23 +10,19 @@ use Rattle.rules.specs.declared.Step.{Step}
 use Rattle.rules.specs.declared.Step.TheVariants as step
 use Rattle.rules.specs.declared.Refusal.{Refusal}
 use Rattle.rules.specs.declared.Refusal.TheVariants as refusal
-use Rattle.rules.specs.declared.Verdict.{Verdict}
-use Rattle.rules.specs.declared.Verdict.TheVariants as verdict
 use Rattle.rules.specs.declared.Effect.{Effect}
 use Rattle.rules.specs.declared.Effect.TheVariants as effect
 use Rattle.rules.specs.declared.Answer.{Answer}
 use Rattle.rules.specs.declared.Answer.TheVariants as answer
-use Rattle.rules.specs.declared.Ran.{Ran}
-use Rattle.rules.specs.declared.Ran.TheVariants as ran
-use Rattle.rules.specs.declared.Waited.{Waited}
-use Rattle.rules.specs.declared.Waited.TheVariants as waited
+use Rattle.rules.specs.declared.RunRefusal.TheVariants as run_refused
+use Rattle.rules.specs.declared.WaitEnd.TheVariants as wait
+use Rattle.rules.specs.declared.WaitRefusal.TheVariants as wait_refused
 use Rattle.rules.specs.declared.Basis.{Basis}
 use Rattle.rules.specs.declared.Basis.TheVariants as basis
-use Rattle.rules.specs.declared.Bounded.{Bounded}
-use Rattle.rules.specs.declared.Bounded.TheVariants as bounded
+use Rattle.rules.specs.declared.NoBound.TheVariants as no_bound
 use Rattle.rules.specs.declared.Flat.{Flat}
 use Rattle.rules.specs.Channels.{most_records, no_channel}
-use Rattle.rules.specs.Runs.{one_if}
+use Rattle.rules.specs.Runs.{one_if, Ran, Waited}
 
 -- ---- a list lent as bytes, as C has it
 
@@ -119,8 +117,8 @@ refusal_number refusal.Memory = 8
 
 -- 0 where nothing is refused
 abbrev pub told_verdict : Verdict → ℕ
-told_verdict verdict.Accepted = 0
-told_verdict (verdict.Refused reason) = refusal_number reason
+told_verdict (Ok it) = 0
+told_verdict (Err reason) = refusal_number reason
 
 -- 0 not selected, 1 raised, 2 merged
 abbrev pub effect_number : Effect → ℕ
@@ -142,31 +140,39 @@ tell_refused kind reason = flat kind (refusal_number reason) 0 0 0 0
 
 -- of a step. A byte; the EIPR bits lost; the effects on the maskable bit and on TLIP; the top level's vector 04h; source, level and vector; source and
 -- whether the block ended
-abbrev pub told : Answer → Flat
-told answer.NoStep = tell 0 0 0 0
-told (answer.Byte byte) = tell 1 byte 0 0
-told (answer.Written lost) = tell 2 lost.eipr 0 0
-told (answer.Triggered maskable top) = tell 3 (effect_number maskable) (effect_number top) 0
-told answer.Nothing = tell 4 0 0 0
-told answer.TopLevel = tell 5 0 0 0x04
-told (answer.Interrupt source level vector) = tell 6 source level vector
-told (answer.Transferred source ended) = tell 7 source (one_if ended) 0
-told answer.Returned = tell 8 0 0 0
-told answer.Reset = tell 9 0 0 0
-told (answer.Refused reason) = tell_refused 10 reason
+abbrev pub told_answer : Answer → Flat
+told_answer (answer.Byte byte) = tell 1 byte 0 0
+told_answer (answer.Written lost) = tell 2 lost.eipr 0 0
+told_answer (answer.Triggered maskable top) = tell 3 (effect_number maskable) (effect_number top) 0
+told_answer answer.Nothing = tell 4 0 0 0
+told_answer answer.TopLevel = tell 5 0 0 0x04
+told_answer (answer.Interrupt source level vector) = tell 6 source level vector
+told_answer (answer.Transferred source ended) = tell 7 source (one_if ended) 0
+told_answer answer.Returned = tell 8 0 0 0
+told_answer answer.Reset = tell 9 0 0 0
+
+-- or a refusal
+abbrev pub told : Answered → Flat
+told (Ok answered) = told_answer answered
+told (Err reason) = tell_refused 10 reason
+
+-- the last answer of a run, if any
+abbrev pub told_last : Option Answer → Flat
+told_last None = tell 0 0 0 0
+told_last (Some answered) = told_answer answered
 
 -- of a run: the last answer with the steps done; a refusal has its number alone, or its number and its index
 abbrev pub told_run : Ran → Flat
-told_run (ran.Refused reason) = tell_refused 11 reason
-told_run (ran.RefusedAt reason index) = flat 12 (refusal_number reason) index 0 0 0
-told_run (ran.Done steps last) = let its = told last in flat its.kind its.refusal steps its.first its.second its.third
+told_run (Err (run_refused.Before reason)) = tell_refused 11 reason
+told_run (Err (run_refused.At reason index)) = flat 12 (refusal_number reason) index 0 0 0
+told_run (Ok done) = let its = told_last done.last in flat its.kind its.refusal done.steps its.first its.second its.third
 
 -- of a wait report: the arbitrations made; a refusal has its number alone, or its number, its index and the arbitrations before it
 abbrev pub told_wait : Waited → Flat
-told_wait (waited.Refused reason) = tell_refused 11 reason
-told_wait (waited.RefusedAt reason index arbitrations) = flat 12 (refusal_number reason) index arbitrations 0 0
-told_wait (waited.Ended arbitrations) = tell 13 arbitrations 0 0
-told_wait (waited.Acknowledged arbitrations) = tell 14 arbitrations 0 0
+told_wait (Err (wait_refused.Before reason)) = tell_refused 11 reason
+told_wait (Err (wait_refused.At reason index arbitrations)) = flat 12 (refusal_number reason) index arbitrations 0 0
+told_wait (Ok (wait.Ended arbitrations)) = tell 13 arbitrations 0 0
+told_wait (Ok (wait.Acknowledged arbitrations)) = tell 14 arbitrations 0 0
 
 -- what a write changed, by number
 abbrev pub basis_number : Basis → ℕ
@@ -180,15 +186,15 @@ basis_number basis.Level = 7
 
 -- of a bound: a refusal's number; the index of a step, and what it changed; H, E and the bound
 abbrev pub told_bound : Bounded → Flat
-told_bound (bounded.Refused reason) = tell_refused 11 reason
-told_bound bounded.Nested = tell 15 0 0 0
-told_bound bounded.DmaEnabled = tell 16 0 0 0
-told_bound bounded.TopLevelEnabled = tell 17 0 0 0
-told_bound bounded.TopLevelInService = tell 18 0 0 0
-told_bound bounded.NotPending = tell 19 0 0 0
-told_bound bounded.Masked = tell 20 0 0 0
-told_bound bounded.LevelNotAbove = tell 21 0 0 0
-told_bound (bounded.OtherStep index) = flat 22 0 index 0 0 0
-told_bound (bounded.InterruptsDisabled index) = flat 23 0 index 0 0 0
-told_bound (bounded.Within outranking triggers bound) = tell 24 outranking triggers bound
-told_bound (bounded.Changed basis index) = flat 25 0 index (basis_number basis) 0 0
+told_bound (Err (no_bound.Refused reason)) = tell_refused 11 reason
+told_bound (Err no_bound.Nested) = tell 15 0 0 0
+told_bound (Err no_bound.DmaEnabled) = tell 16 0 0 0
+told_bound (Err no_bound.TopLevelEnabled) = tell 17 0 0 0
+told_bound (Err no_bound.TopLevelInService) = tell 18 0 0 0
+told_bound (Err no_bound.NotPending) = tell 19 0 0 0
+told_bound (Err no_bound.Masked) = tell 20 0 0 0
+told_bound (Err no_bound.LevelNotAbove) = tell 21 0 0 0
+told_bound (Err (no_bound.OtherStep index)) = flat 22 0 index 0 0 0
+told_bound (Err (no_bound.InterruptsDisabled index)) = flat 23 0 index 0 0 0
+told_bound (Ok given) = tell 24 given.outranking given.triggers given.bound
+told_bound (Err (no_bound.Changed basis index)) = flat 25 0 index (basis_number basis) 0 0

@@ -5,57 +5,52 @@ use Rattle.rules.specs.declared.Channel.{Channel}
 use Rattle.rules.specs.declared.Trigger.{Trigger}
 use Rattle.rules.specs.declared.Step.{Step}
 use Rattle.rules.specs.declared.Step.TheVariants as step
-use Rattle.rules.specs.declared.Answer.{Answer}
-use Rattle.rules.specs.declared.Verdict.{Verdict}
-use Rattle.rules.specs.declared.Ran.{Ran}
-use Rattle.rules.specs.declared.Waited.{Waited}
-use Rattle.rules.specs.declared.Bounded.{Bounded}
 use Rattle.rules.specs.declared.Flat.{Flat}
 use Rattle.rules.specs.Image.{Image, Memory, Fits}
-use Rattle.rules.specs.Outcomes.{State, state, alone}
+use Rattle.rules.specs.Outcomes.{State, state, alone, Answered, Verdict}
 use Rattle.rules.specs.Registers.{view_of, view_verdict}
 use Rattle.rules.specs.Sources.{pending}
 use Rattle.rules.specs.Steps.{step_of}
-use Rattle.rules.specs.Runs.{run_of, run_history, wait_of}
+use Rattle.rules.specs.Runs.{run_of, run_history, wait_of, Ran, Waited}
 use Rattle.rules.specs.Claims.{ClaimsOf, WaitClaimsOf}
-use Rattle.rules.specs.Bounds.{bound_of, where_bounded, BoundSays, WaitInBound}
+use Rattle.rules.specs.Bounds.{bound_of, where_bounded, BoundSays, WaitInBound, Bounded}
 use Rattle.rules.specs.HandlerBounds.{handler_bound_of, HandlerBoundSays}
 use Rattle.rules.specs.Encodings.{decode_of, steps_of, list_in, told, told_verdict, told_run, told_wait, told_bound}
 
 -- ---- one step
 
 -- on what is lent it answers this and leaves `after`. Two answers with the same numbers are one (proofs/Told), here and below
-abbrev pub Does : State → List Channel → Step → Answer → State → Type 0
+abbrev pub Does : State → List Channel → Step → Answered → State → Type 0
 Does before cs x answered after =
     let o = step_of before cs x in
     (told answered ≡ told o.answer) × (after ≡ o.left)
 
 -- a read: the image is lent to be read only, so its type keeps every byte, and the promise has the answer alone
-abbrev pub Reads : Image → List Channel → ℕ → Answer → Type 0
+abbrev pub Reads : Image → List Channel → ℕ → Answered → Type 0
 Reads lent cs r answered = told answered ≡ told (step_of (alone lent) cs (step.Read r)).answer
 
 -- a write of v to register r. This, a trigger, a return and a reset take no memory
-abbrev pub Writes : Image → List Channel → ℕ → ℕ → Answer → Image → Type 0
+abbrev pub Writes : Image → List Channel → ℕ → ℕ → Answered → Image → Type 0
 Writes before cs r v answered after = Does (alone before) cs (step.Write r v) answered (alone after)
 
 -- a trigger
-abbrev pub Triggers : Image → List Channel → Trigger → Answer → Image → Type 0
+abbrev pub Triggers : Image → List Channel → Trigger → Answered → Image → Type 0
 Triggers before cs t answered after = Does (alone before) cs (step.Trigger t) answered (alone after)
 
 -- an arbitration
-abbrev pub Arbitrates : State → List Channel → Answer → State → Type 0
+abbrev pub Arbitrates : State → List Channel → Answered → State → Type 0
 Arbitrates before cs answered after = Does before cs step.Arbitrate answered after
 
 -- a return
-abbrev pub Returns : Image → List Channel → Answer → Image → Type 0
+abbrev pub Returns : Image → List Channel → Answered → Image → Type 0
 Returns before cs answered after = Does (alone before) cs step.Return answered (alone after)
 
 -- a reset
-abbrev pub Resets : Image → List Channel → Answer → Image → Type 0
+abbrev pub Resets : Image → List Channel → Answered → Image → Type 0
 Resets before cs answered after = Does (alone before) cs step.Reset answered (alone after)
 
 -- the step that a word stands for
-abbrev pub DoesWord : State → List Channel → ℕ → Answer → State → Type 0
+abbrev pub DoesWord : State → List Channel → ℕ → Answered → State → Type 0
 DoesWord before cs word answered after = Does before cs (decode_of word) answered after
 
 -- ---- runs and wait reports

@@ -1,9 +1,8 @@
 -- Document 01, "Arbitration": the return. Assumes nothing.
-use Rattle.std.specs.Prelude.{Bool, true, false, cond, ℕ, zero, suc, ltb, set}
-use Rattle.rules.specs.declared.Answer.{Answer}
+use Rattle.std.specs.Prelude.{Bool, true, false, cond, ℕ, zero, suc, ltb, set, Ok}
 use Rattle.rules.specs.declared.Answer.TheVariants as answer
 use Rattle.rules.specs.Image.{Image, has, put, put_CPL, in_service, HL, IAM, IEN, MARK}
-use Rattle.rules.specs.Outcomes.{Outcome, outcome}
+use Rattle.rules.specs.Outcomes.{Outcome, outcome, Answered}
 
 -- the smallest x below n that passes a test, n where there is none
 unfoldable pub smallest : ℕ → (ℕ → Bool) → ℕ
@@ -31,5 +30,5 @@ unfoldable pub returned : Image → Image
 returned m = cond (in_service m) (set m MARK 0) (put (returned_levels m) IEN true)
 
 -- a return; its answer has no values
-unfoldable pub return_of : Image → Outcome Answer Image
-return_of m = outcome answer.Returned (returned m)
+unfoldable pub return_of : Image → Outcome Answered Image
+return_of m = outcome (Ok answer.Returned) (returned m)

@@ -1,20 +1,20 @@
 -- Document 01, "Runs and the wait report": the history of a list of steps; the run and the wait report are read off it.
 -- Assumes nothing.
-use Rattle.std.specs.Prelude.{Bool, true, false, cond, not, ◌&&◌, ◌||◌, List, [], ◌∷◌, ◌≡◌, ℕ, ◌+◌, ltb}
+use Rattle.std.specs.Prelude.{Bool, true, false, cond, not, ◌&&◌, ◌||◌, List, [], ◌∷◌, ◌≡◌, ℕ, ◌+◌, ltb, Option, Some, None, Result, Ok, Err}
 use Rattle.rules.specs.declared.Channel.{Channel}
 use Rattle.rules.specs.declared.Step.{Step}
 use Rattle.rules.specs.declared.Step.TheVariants as step
 use Rattle.rules.specs.declared.Refusal.TheVariants as refusal
 use Rattle.rules.specs.declared.Answer.{Answer}
-use Rattle.rules.specs.declared.Answer.TheVariants as answer
-use Rattle.rules.specs.declared.Verdict.{Verdict}
-use Rattle.rules.specs.declared.Verdict.TheVariants as verdict
-use Rattle.rules.specs.declared.Ran.{Ran}
-use Rattle.rules.specs.declared.Ran.TheVariants as ran
-use Rattle.rules.specs.declared.Waited.{Waited}
-use Rattle.rules.specs.declared.Waited.TheVariants as waited
+use Rattle.rules.specs.declared.Run.{Run}
+use Rattle.rules.specs.declared.RunRefusal.{RunRefusal}
+use Rattle.rules.specs.declared.RunRefusal.TheVariants as run_refused
+use Rattle.rules.specs.declared.WaitEnd.{WaitEnd}
+use Rattle.rules.specs.declared.WaitEnd.TheVariants as wait
+use Rattle.rules.specs.declared.WaitRefusal.{WaitRefusal}
+use Rattle.rules.specs.declared.WaitRefusal.TheVariants as wait_refused
 use Rattle.rules.specs.Image.{Image}
-use Rattle.rules.specs.Outcomes.{State, Outcome, outcome, refused_unless, refused_or, verdict_of, is_refused, acknowledges}
+use Rattle.rules.specs.Outcomes.{State, Outcome, outcome, refused_unless, Answered, Verdict, accepted, refused_or, is_refused, acknowledges}
 use Rattle.rules.specs.Sources.{sources}
 use Rattle.rules.specs.Steps.{lent_verdict, step_of}
 
@@ -24,10 +24,10 @@ use Rattle.rules.specs.Steps.{lent_verdict, step_of}
 pub record Event : Type 0 where
   pub before : State
   pub step : Step
-  pub outcome : Outcome Answer State
+  pub outcome : Outcome Answered State
 
 -- the event of a step that got s and answered and left o
-abbrev pub event_of : State → Step → Outcome Answer State → Event
+abbrev pub event_of : State → Step → Outcome Answered State → Event
 event_of s x o = record { before = s; step = x; outcome = o }
 
 -- each step gets the state that the one before it left, a refused one too (which leaves what it got)
@@ -77,10 +77,10 @@ event_refused e = is_refused e.outcome.answer
 abbrev pub steps_done : List Event → ℕ
 steps_done es = counted (λ e. not (event_refused e)) es
 
--- the answer of the last event, or the given one where there is none
-unfoldable pub last_answer : Answer → List Event → Answer
+-- the answer of the last event, or the given one, if any, where there is no event
+unfoldable pub last_answer : Option Answered → List Event → Option Answered
 last_answer answered [] = answered
-last_answer answered (e ∷ es) = last_answer e.outcome.answer es
+last_answer answered (e ∷ es) = last_answer (Some e.outcome.answer) es
 
 -- ---- the run
 
@@ -88,17 +88,27 @@ last_answer answered (e ∷ es) = last_answer e.outcome.answer es
 abbrev pub run_events : State → List Channel → List Step → List Event
 run_events s cs xs = until event_refused (history s cs xs)
 
--- how many steps were done and the answer of the last one; where that is a refusal, the number and its index, which is the number of steps done before it
+-- what a run answers: the steps done, with the answer of the last one, if any; or the reason for a refusal
+abbrev pub Ran : Type 0
+Ran = Result Run RunRefusal
+
+abbrev pub ran : ℕ → Option Answer → Run
+ran steps last = record { steps = steps; last = last }
+
+-- by the steps done and the last answer, if any; where that is a refusal, the number and its index, which is the number of steps done before it
+abbrev pub ran_by : ℕ → Option Answered → Ran
+ran_by steps None = Ok (ran steps None)
+ran_by steps (Some (Ok answered)) = Ok (ran steps (Some answered))
+ran_by steps (Some (Err reason)) = Err (run_refused.At reason steps)
+
 unfoldable pub run_answer : List Event → Ran
-run_answer es =
-    let last = last_answer answer.NoStep es in
-    refused_or (verdict_of last) (λ reason. ran.RefusedAt reason (steps_done es)) (ran.Done (steps_done es) last)
+run_answer es = ran_by (steps_done es) (last_answer None es)
 
 -- a run: refused before any step with 1, then 2, then 8; else the steps one after another, each with its own refusals (Steps `act_of`)
 unfoldable pub run_of : State → List Channel → List Step → Outcome Ran State
 run_of s cs xs =
     let es = run_events s cs xs in
-    refused_or (lent_verdict s cs) (λ reason. outcome (ran.Refused reason) s) (outcome (run_answer es) (state_after s es))
+    refused_or (lent_verdict s cs) (λ reason. outcome (Err (run_refused.Before reason)) s) (outcome (run_answer es) (state_after s es))
 
 -- its events, a refused last one included; none where it is refused before any step
 abbrev pub run_history : State → List Channel → List Step → List Event
@@ -136,24 +146,31 @@ arbitrations_in es = counted made_arbitration es
 abbrev pub wait_events : State → List Channel → ℕ → List Step → List Event
 wait_events s cs source xs = until (event_acknowledges source) (run_events s cs xs)
 
--- by the last answer: a refusal with its number, its index and the arbitrations before it; the source acknowledged; or the list's end; with the arbitrations
--- made, the last included
+-- what a wait report answers
+abbrev pub Waited : Type 0
+Waited = Result WaitEnd WaitRefusal
+
+-- by the steps done, the arbitrations made and the last answer, if any: a refusal with its number, its index and the arbitrations before it; the source
+-- acknowledged; or the list's end; with the arbitrations made, the last included
+abbrev pub waited_by : ℕ → ℕ → ℕ → Option Answered → Waited
+waited_by source steps arbitrations None = Ok (wait.Ended arbitrations)
+waited_by source steps arbitrations (Some (Ok answered)) =
+    Ok (cond (acknowledges source (Ok answered)) (wait.Acknowledged arbitrations) (wait.Ended arbitrations))
+waited_by source steps arbitrations (Some (Err reason)) = Err (wait_refused.At reason steps arbitrations)
+
 unfoldable pub wait_answer : ℕ → List Event → Waited
-wait_answer source es =
-    let last = last_answer answer.NoStep es in
-    refused_or (verdict_of last) (λ reason. waited.RefusedAt reason (steps_done es) (arbitrations_in es))
-    (cond (acknowledges source last) (waited.Acknowledged (arbitrations_in es)) (waited.Ended (arbitrations_in es)))
+wait_answer source es = waited_by source (steps_done es) (arbitrations_in es) (last_answer None es)
 
 -- refused before any step with 1, then 2, then 8, then with 4 where there is no such source
 unfoldable pub wait_verdict : State → List Channel → ℕ → Verdict
 wait_verdict s cs source =
-    refused_or (lent_verdict s cs) verdict.Refused (refused_unless (ltb source (sources cs)) refusal.Number verdict.Accepted)
+    refused_or (lent_verdict s cs) (λ reason. Err reason) (refused_unless (ltb source (sources cs)) refusal.Number accepted)
 
 -- the wait report for a source: refused before any step with 1, then 2, then 8, then 4; else the steps, each with its own refusals, until one acknowledges it
 unfoldable pub wait_of : State → List Channel → ℕ → List Step → Outcome Waited State
 wait_of s cs source xs =
     let es = wait_events s cs source xs in
-    refused_or (wait_verdict s cs source) (λ reason. outcome (waited.Refused reason) s) (outcome (wait_answer source es) (state_after s es))
+    refused_or (wait_verdict s cs source) (λ reason. outcome (Err (wait_refused.Before reason)) s) (outcome (wait_answer source es) (state_after s es))
 
 -- its events, a refused last one included; none where it is refused before any step
 abbrev pub wait_history : State → List Channel → ℕ → List Step → List Event

@@ -1,13 +1,12 @@
 -- Document 01, "Arbitration": a DMA request has won; and document 02, §1: blocks into memory. n, a and c are document 01's: the pair, the address and the
 -- counter; with the memory n is the counter's pair, and p the address's. Assumes nothing.
-use Rattle.std.specs.Prelude.{Bool, false, cond, ◌&&◌, ◌||◌, ℕ, ◌+◌, ◌*◌, ◌/◌, ◌%◌, eqb, ltb, length, set}
+use Rattle.std.specs.Prelude.{Bool, false, cond, ◌&&◌, ◌||◌, ℕ, ◌+◌, ◌*◌, ◌/◌, ◌%◌, eqb, ltb, length, set, Ok}
 use Rattle.rules.specs.declared.Channel.{Channel}
-use Rattle.rules.specs.declared.Answer.{Answer}
 use Rattle.rules.specs.declared.Answer.TheVariants as answer
 use Rattle.rules.specs.declared.Refusal.TheVariants as refusal
 use Rattle.rules.specs.Image.{Image, at, has, put}
 use Rattle.rules.specs.Channels.{dcpr_byte, dapr_byte, data_byte, IP, DM, IM}
-use Rattle.rules.specs.Outcomes.{State, state, Outcome, outcome, refuse}
+use Rattle.rules.specs.Outcomes.{State, state, Outcome, outcome, refuse, Answered}
 
 -- n is DCPR with bit 0 cleared
 unfoldable pub pair_of : Image → Channel → ℕ
@@ -20,10 +19,10 @@ unfoldable pub settled : Image → Channel → Bool → Image
 settled m channel ended = put (cond ended (put m (DM channel) false) m) (IP channel) (ended && has m (IM channel))
 
 -- after the move, with the new address and counter stored: if the new counter is 0 the block has ended
-unfoldable pub finished : State → Channel → ℕ → ℕ → Outcome Answer State
+unfoldable pub finished : State → Channel → ℕ → ℕ → Outcome Answered State
 finished s channel source count =
     let ended = eqb count 0 in
-    outcome (answer.Transferred source ended) (state (settled s.image channel ended) s.memory)
+    outcome (Ok (answer.Transferred source ended)) (state (settled s.image channel ended) s.memory)
 
 -- ---- with the register file
 
@@ -45,11 +44,11 @@ advanced m n a c = set (set m n (a + 1)) (n + 1) (less_one c)
 
 -- the source's channel is served over pair n, with the address a and the counter c that were read first. The new ones are stored after the move, so that they
 -- stand whatever it hits
-unfoldable pub served : State → Channel → ℕ → ℕ → ℕ → ℕ → Outcome Answer State
+unfoldable pub served : State → Channel → ℕ → ℕ → ℕ → ℕ → Outcome Answered State
 served s channel source n a c = finished (state (advanced (moved_byte s.image channel a) n a c) s.memory) channel source (less_one c)
 
 -- address a is Rn and counter c is R(n+1). Refused with 6 where n or a is over 223
-unfoldable pub register_transfer : State → Channel → ℕ → Outcome Answer State
+unfoldable pub register_transfer : State → Channel → ℕ → Outcome Answered State
 register_transfer s channel source =
     let m = s.image in
     let n = pair_of m channel in
@@ -92,13 +91,13 @@ unfoldable pub advanced_words : Image → ℕ → ℕ → ℕ → ℕ → Image
 advanced_words m p n a c = put_word (put_word m p (one_more_word a)) n (less_one_word c)
 
 -- the source's channel is served over the pairs p and n, with the address a and the counter c that were read first
-unfoldable pub served_memory : State → Channel → ℕ → ℕ → ℕ → ℕ → ℕ → Outcome Answer State
+unfoldable pub served_memory : State → Channel → ℕ → ℕ → ℕ → ℕ → ℕ → Outcome Answered State
 served_memory s channel source p n a c =
     let moved = moved_memory s channel a in
     finished (state (advanced_words moved.image p n a c) moved.memory) channel source (less_one_word c)
 
 -- both pairs are read first. Refused with 6 where either pointer is over 222, then with 5 where the address is not below the memory's length
-unfoldable pub memory_transfer : State → Channel → ℕ → Outcome Answer State
+unfoldable pub memory_transfer : State → Channel → ℕ → Outcome Answered State
 memory_transfer s channel source =
     let m = s.image in
     let p = address_pair_of m channel in
@@ -110,6 +109,6 @@ memory_transfer s channel source =
 -- ---- a transfer
 
 -- with DCPR bit 0 = 0 it is with the memory, else with the register file
-unfoldable pub transfer_of : State → Channel → ℕ → Outcome Answer State
+unfoldable pub transfer_of : State → Channel → ℕ → Outcome Answered State
 transfer_of s channel source =
     cond (eqb (at s.image (dcpr_byte channel) % 2) 0) (memory_transfer s channel source) (register_transfer s channel source)

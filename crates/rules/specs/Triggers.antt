@@ -1,28 +1,25 @@
 -- Document 01, "Triggers": which bits a trigger selects, what it answers for each, and when it is refused.
 -- Assumes nothing.
-use Rattle.std.specs.Prelude.{Bool, true, false, cond, not, ◌&&◌, ◌||◌, List, ℕ, ◌+◌, eqb, ltb, length}
+use Rattle.std.specs.Prelude.{Bool, true, false, cond, not, ◌&&◌, ◌||◌, List, ℕ, ◌+◌, eqb, ltb, length, Ok, Err}
 use Rattle.std.proofs.Math.Option.{Option, none, some}
 use Rattle.rules.specs.declared.Channel.{Channel}
 use Rattle.rules.specs.declared.Trigger.{Trigger}
 use Rattle.rules.specs.declared.Trigger.TheVariants as trigger
 use Rattle.rules.specs.declared.Effect.{Effect}
 use Rattle.rules.specs.declared.Effect.TheVariants as effect
-use Rattle.rules.specs.declared.Answer.{Answer}
 use Rattle.rules.specs.declared.Answer.TheVariants as answer
 use Rattle.rules.specs.declared.Refusal.TheVariants as refusal
-use Rattle.rules.specs.declared.Verdict.{Verdict}
-use Rattle.rules.specs.declared.Verdict.TheVariants as verdict
 use Rattle.rules.specs.Image.{Image, bit_of, has, put, EITR, TLIP, TLTEV, TLIS, IAOS}
-use Rattle.rules.specs.Outcomes.{Outcome, outcome, refuse, refused_unless, refused_where, refused_or}
+use Rattle.rules.specs.Outcomes.{Outcome, outcome, Answered, refuse, refused_unless, refused_where, refused_or, Verdict, accepted}
 use Rattle.rules.specs.Sources.{pending_bit, pending}
 
 -- 4 for a pin over 7, a direction over 1 or a record that isn't there, 7 for an unknown kind
 unfoldable pub trigger_verdict : List Channel → Trigger → Verdict
-trigger_verdict cs (trigger.Pin k d) = refused_where (ltb 7 k || ltb 1 d) refusal.Number verdict.Accepted
-trigger_verdict cs trigger.Watchdog = verdict.Accepted
-trigger_verdict cs (trigger.Nmi d) = refused_where (ltb 1 d) refusal.Number verdict.Accepted
-trigger_verdict cs (trigger.Request k) = refused_unless (ltb k (length cs)) refusal.Number verdict.Accepted
-trigger_verdict cs trigger.Unknown = verdict.Refused refusal.Kind
+trigger_verdict cs (trigger.Pin k d) = refused_where (ltb 7 k || ltb 1 d) refusal.Number accepted
+trigger_verdict cs trigger.Watchdog = accepted
+trigger_verdict cs (trigger.Nmi d) = refused_where (ltb 1 d) refusal.Number accepted
+trigger_verdict cs (trigger.Request k) = refused_unless (ltb k (length cs)) refusal.Number accepted
+trigger_verdict cs trigger.Unknown = Err refusal.Kind
 
 -- direction d (0 falling, 1 rising) is the one that a bit selects (1 rising)
 abbrev pub edge : ℕ → Bool → Bool
@@ -68,9 +65,9 @@ unfoldable pub raise_top : Image → Bool → Image
 raise_top m selected = cond selected (put m TLIP true) m
 
 -- the bits that it selects are set, and answered for separately
-unfoldable pub fired : Image → List Channel → Option ℕ → Bool → Outcome Answer Image
-fired m cs selected top = outcome (answer.Triggered (source_effect m cs selected) (top_effect m top)) (raise_top (raise_source m cs selected) top)
+unfoldable pub fired : Image → List Channel → Option ℕ → Bool → Outcome Answered Image
+fired m cs selected top = outcome (Ok (answer.Triggered (source_effect m cs selected) (top_effect m top))) (raise_top (raise_source m cs selected) top)
 
 -- a trigger: refused with 4 or 7, or answered for both bits
-unfoldable pub trigger_of : Image → List Channel → Trigger → Outcome Answer Image
+unfoldable pub trigger_of : Image → List Channel → Trigger → Outcome Answered Image
 trigger_of m cs t = refused_or (trigger_verdict cs t) (λ reason. refuse reason m) (fired m cs (selects m t) (selects_top m t))

@@ -1,6 +1,8 @@
 // The numbers and the types that every crate of the model shares.
 #![tactic(auto)]
 
+ghost use Rattle.std.specs.Prelude.{◌≡◌};
+
 // The bytes of an image.
 pub const IMAGE_LENGTH: usize = 1265;
 
@@ -92,40 +94,33 @@ pub struct Channels {
     pub count: usize,
 }
 
-// Where a register number goes: a byte of the image with the bits that exist there, or nowhere.
-#[derive(Clone, Copy)]
-pub enum Place {
-    At(usize, u8),
-    Unmodelled,
+// Where a register number goes: a byte of the image, with the bits that exist there. A number that goes nowhere has none.
+#[derive(Clone, Copy, PartialEq, Eq)]
+pub struct Place {
+    pub byte: usize,
+    pub existing: u8,
 }
 
-// The reasons for a refusal, numbers 1 to 8 of documents 01 and 02 in order: the image's length, the list, a register or viewed page, a pin, direction, record
+// The reasons for a refusal, with the numbers of documents 01 and 02: the image's length, the list, a register or viewed page, a pin, direction, record
 // or source number, a memory address, a pointer over R223, an unknown kind, the memory's length.
-#[derive(Clone, Copy)]
+#[derive(Clone, Copy, PartialEq, Eq)]
 pub enum Refusal {
-    Length,
-    List,
-    Register,
-    Number,
-    Address,
-    Pointer,
-    Kind,
-    Memory,
-}
-
-// Whether what is lent, or what is asked for, is accepted.
-#[derive(Clone, Copy)]
-pub enum Verdict {
-    Accepted,
-    Refused(Refusal),
+    Length = 1,
+    List = 2,
+    Register = 3,
+    Number = 4,
+    Address = 5,
+    Pointer = 6,
+    Kind = 7,
+    Memory = 8,
 }
 
 // What a trigger did to a pending bit.
-#[derive(Clone, Copy)]
+#[derive(Clone, Copy, PartialEq, Eq)]
 pub enum Effect {
-    NotSelected,
-    Raised,
-    Merged,
+    NotSelected = 0,
+    Raised = 1,
+    Merged = 2,
 }
 
 // What can set a pending bit from outside: a pin edge, the watchdog's end of count, an NMI edge, a channel request, or a kind that is none of
@@ -168,15 +163,14 @@ pub enum Step {
 }
 
 // The pending bits that a write took from 1 to 0.
-#[derive(Clone, Copy)]
+#[derive(Clone, Copy, PartialEq, Eq)]
 pub struct Losses {
     pub eipr: u8,
 }
 
-// What a step answers. A trigger answers for the maskable bit, then for TLIP; `Nothing` is an arbitration's "none". `NoStep` is the last answer of an empty run.
-#[derive(Clone, Copy)]
+// What a step answers that is not refused. A trigger answers for the maskable bit, then for TLIP; `Nothing` is an arbitration's "none".
+#[derive(Clone, Copy, PartialEq, Eq)]
 pub enum Answer {
-    NoStep,
     Byte(u8),
     Written(Losses),
     Triggered(Effect, Effect),
@@ -186,62 +180,75 @@ pub enum Answer {
     Transferred { source: u8, ended: bool },
     Returned,
     Reset,
-    Refused(Refusal),
 }
 
-// What is asked of an answer: whether it is a refusal, a trigger with what it did to the maskable bit, or an acknowledged source.
-#[derive(Clone, Copy)]
+// What is asked of an answer: whether it is that of a trigger, with what it did to the maskable bit, or an acknowledged source.
+#[derive(Clone, Copy, PartialEq, Eq)]
 pub enum AnswerKind {
     Plain,
     Triggered(Effect),
     Acknowledged(u8),
-    Refused(Refusal),
 }
 
-// What a run answers: refused before any step, refused at a step, or the steps done and the last answer.
+// A run that is not refused: the steps done, and the answer of the last one, none where there was no step.
 #[derive(Clone, Copy)]
-pub enum Ran {
-    Refused(Refusal),
-    RefusedAt { refusal: Refusal, index: usize },
-    Done { steps: usize, last: Answer },
+pub struct Run {
+    pub steps: usize,
+    pub last: Option<Answer>,
 }
 
-// What a wait report answers, with the arbitrations made.
+// Why a run is refused: before any step, or at one, by its index, with the steps before it done.
 #[derive(Clone, Copy)]
-pub enum Waited {
-    Refused(Refusal),
-    RefusedAt {
+pub enum RunRefusal {
+    Before(Refusal),
+    At { refusal: Refusal, index: usize },
+}
+
+// How a wait report that is not refused ends, with the arbitrations made.
+#[derive(Clone, Copy)]
+pub enum WaitEnd {
+    Ended { arbitrations: usize },
+    Acknowledged { arbitrations: usize },
+}
+
+// Why one is refused: before any step, or at one, with the arbitrations before it.
+#[derive(Clone, Copy)]
+pub enum WaitRefusal {
+    Before(Refusal),
+    At {
         refusal: Refusal,
         index: usize,
         arbitrations: usize,
     },
-    Ended {
-        arbitrations: usize,
-    },
-    Acknowledged {
-        arbitrations: usize,
-    },
 }
 
-// What a bound over reads and writes rests on, in the order in which a change of it is answered: our pending bit; the mode; the current level; the top
-// level's enables; and each source's mask, DMA enable and level.
-#[derive(Clone, Copy)]
+// What a bound over reads and writes rests on, in the order in which a change of it is answered, with its number for C: our pending bit; the mode; the current
+// level; the top level's enables; and each source's mask, DMA enable and level.
+#[derive(Clone, Copy, PartialEq, Eq)]
 pub enum Basis {
-    Pending,
-    Mode,
-    CurrentLevel,
-    TopLevel,
-    Mask,
-    DmaEnable,
-    Level,
+    Pending = 1,
+    Mode = 2,
+    CurrentLevel = 3,
+    TopLevel = 4,
+    Mask = 5,
+    DmaEnable = 6,
+    Level = 7,
 }
 
-// What is answered of a bound: a refusal with 1, then 2, then 4; else the first premise on the start that fails; else one on the steps, with the index of the step;
-// else the bound. Demand 3's answers the first step of another kind, and only where there is none the first arbitration with interrupts disabled; that over reads
-// and writes the first step that breaks any premise, and it alone answers `Changed`. `Within` has the unmasked sources outranking ours that are pending at the
-// start (H), how often the steps trigger such a source or, in the second, raise its pending bit (E), and the bound H + E + 1.
+// A bound: the unmasked sources outranking ours that are pending at the start (H), how often the steps trigger such a source or, in the bound over reads and
+// writes, raise its pending bit (E), and H + E + 1.
 #[derive(Clone, Copy)]
-pub enum Bounded {
+pub struct Bound {
+    pub outranking: usize,
+    pub triggers: usize,
+    pub bound: usize,
+}
+
+// Why there is none: a refusal with 1, then 2, then 4; else the first premise on the start that fails; else one on the steps, with the index of the step. Demand
+// 3's answers the first step of another kind, and only where there is none the first arbitration with interrupts disabled; that over reads and writes the first
+// step that breaks any premise, and it alone answers `Changed`.
+#[derive(Clone, Copy)]
+pub enum NoBound {
     Refused(Refusal),
     Nested,
     DmaEnabled,
@@ -250,27 +257,46 @@ pub enum Bounded {
     NotPending,
     Masked,
     LevelNotAbove,
-    OtherStep {
-        index: usize,
-    },
-    Changed {
-        basis: Basis,
-        index: usize,
-    },
-    InterruptsDisabled {
-        index: usize,
-    },
-    Within {
-        outranking: usize,
-        triggers: usize,
-        bound: usize,
-    },
+    OtherStep { index: usize },
+    Changed { basis: Basis, index: usize },
+    InterruptsDisabled { index: usize },
+}
+
+// A refusal of what is lent is one before any step.
+impl From<Refusal> for RunRefusal {
+    ghost use Rattle.rules.specs.declared.RunRefusal.TheVariants.{Before};
+
+    ghost from_gives = { λ reason given. given ≡ Before reason };
+
+    fn from(refusal: Refusal) -> RunRefusal {
+        RunRefusal::Before(refusal)
+    }
+}
+
+impl From<Refusal> for WaitRefusal {
+    ghost use Rattle.rules.specs.declared.WaitRefusal.TheVariants.{Before};
+
+    ghost from_gives = { λ reason given. given ≡ Before reason };
+
+    fn from(refusal: Refusal) -> WaitRefusal {
+        WaitRefusal::Before(refusal)
+    }
+}
+
+impl From<Refusal> for NoBound {
+    ghost use Rattle.rules.specs.declared.NoBound.TheVariants.{Refused};
+
+    ghost from_gives = { λ reason given. given ≡ Refused reason };
+
+    fn from(refusal: Refusal) -> NoBound {
+        NoBound::Refused(refusal)
+    }
 }
 
 // An answer as numbers, as C has it: its kind, document 01's number where something is refused (else 0), the steps done or the index of a step, and the
 // values of its kind. specs/Encodings says which.
 #[repr(C)]
-#[derive(Clone, Copy)]
+#[derive(Clone, Copy, PartialEq, Eq)]
 pub struct Flat {
     pub kind: u64,
     pub refusal: u64,

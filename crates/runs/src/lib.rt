@@ -5,53 +5,41 @@ ghost use Rattle.std.specs.Prelude.{◌≡◌};
 ghost use Rattle.rules.specs.Channels.{list_of};
 ghost use Rattle.rules.specs.Outcomes.{state, alone, outcome};
 ghost use Rattle.rules.specs.Steps.{act_of};
-ghost use Rattle.rules.specs.Encodings.{decode_of};
-ghost use Rattle.rules.specs.Promises.{Runs, Waits};
+ghost use Rattle.rules.specs.Runs.{run_of, wait_of};
+ghost use Rattle.rules.specs.Encodings.{decode_of, steps_of};
 ghost use Rattle.channels.specs.Laid.{AcceptedLaid, LentLaid, LentLaidSource};
-ghost use Rattle.runs.specs.Stops.{stop_of};
 
 use channels::{MASKS, PLACES};
-use dispatch::{acknowledged, act, arbitrations, decode, verdict_of};
-use rules::{Answer, Channels, Ran, Verdict, Waited};
+use dispatch::{acknowledged, act, decode};
+use rules::{Answer, Channels, Refusal, Run, RunRefusal, WaitEnd, WaitRefusal};
 
-// Where a list of steps stopped: how many were done, and the last answer, which is a refusal where that stopped it.
-#[derive(Clone, Copy)]
-struct Stopped {
-    steps: usize,
-    last: Answer,
-}
-
-// The steps one after another, up to the first refused. In the archive `act` has this one caller (the steps by name of `machine` are not in it), so that
-// the compiler puts the steps' code into the loop.
-fn steps_of(
+// A run: the steps one after another, up to the first refused. In the archive `act` has this one caller (the steps by name of `machine` are not in it), so
+// that the compiler puts the steps' code into the loop.
+pub fn run_accepted(
     image: &mut [u8],
     memory: &mut [u8],
     all: Channels,
     masks: &[u8; MASKS],
     places: &[u16; PLACES],
     words: &[u64],
-) -> Stopped
+) -> Result<Run, RunRefusal>
     requires { LentLaid (state image.old memory.old) (list_of all) masks.now places.now }
-    ensures { outcome result (state image.new memory.new) ≡ stop_of (state image.old memory.old) (list_of all) words.now }
+    ensures { outcome result (state image.new memory.new) ≡ run_of (state image.old memory.old) (list_of all) (steps_of words.now) }
 {
-    let mut steps: usize = 0;
-    let mut last = Answer::NoStep;
-    while steps < words.len() {
-        let a = act(image, memory, all, masks, places, decode(words[steps]));
-        match verdict_of(a) {
-            Verdict::Accepted => {
-                last = a;
-                steps += 1;
-            }
-            Verdict::Refused(_) => {
-                return Stopped { steps, last: a };
-            }
+    let mut last = None;
+    for (index, &word) in words.iter().enumerate() {
+        match act(image, memory, all, masks, places, decode(word)) {
+            Ok(a) => last = Some(a),
+            Err(refusal) => return Err(RunRefusal::At { refusal, index }),
         }
     }
-    Stopped { steps, last }
+    Ok(Run {
+        steps: words.len(),
+        last,
+    })
 }
 
-// The step that a word stands for: a list of it alone.
+// The step that a word stands for: a run of it alone.
 pub fn perform(
     image: &mut [u8],
     memory: &mut [u8],
@@ -59,13 +47,15 @@ pub fn perform(
     masks: &[u8; MASKS],
     places: &[u16; PLACES],
     word: u64,
-) -> Answer
+) -> Result<Answer, Refusal>
     requires { LentLaid (state image.old memory.old) (list_of all) masks.now places.now }
     ensures { outcome result (state image.new memory.new) ≡ act_of (state image.old memory.old) (list_of all) (decode_of word) }
 {
-    let words = [word];
-    let stopped = steps_of(image, memory, all, masks, places, &words);
-    stopped.last
+    match run_accepted(image, memory, all, masks, places, &[word]) {
+        Ok(run) => Ok(run.last.unwrap()),
+        Err(RunRefusal::Before(refusal)) => Err(refusal),
+        Err(RunRefusal::At { refusal, .. }) => Err(refusal),
+    }
 }
 
 // The same without a memory.
@@ -75,38 +65,12 @@ pub fn perform_alone(
     masks: &[u8; MASKS],
     places: &[u16; PLACES],
     word: u64,
-) -> Answer
+) -> Result<Answer, Refusal>
     requires { AcceptedLaid image.old (list_of all) masks.now places.now }
     ensures { outcome result (alone image.new) ≡ act_of (alone image.old) (list_of all) (decode_of word) }
 {
-    let mut none: [u8; 0] = [0; 0];
+    let mut none: [u8; 0] = [];
     perform(image, &mut none, all, masks, places, word)
-}
-
-// A run.
-pub fn run_accepted(
-    image: &mut [u8],
-    memory: &mut [u8],
-    all: Channels,
-    masks: &[u8; MASKS],
-    places: &[u16; PLACES],
-    words: &[u64],
-) -> Ran
-    requires { LentLaid (state image.old memory.old) (list_of all) masks.now places.now }
-    ensures { Runs (state image.old memory.old) (list_of all) words.now result (state image.new memory.new) }
-{
-    let stopped = steps_of(image, memory, all, masks, places, words);
-    let last = stopped.last;
-    match verdict_of(last) {
-        Verdict::Accepted => Ran::Done {
-            steps: stopped.steps,
-            last,
-        },
-        Verdict::Refused(refusal) => Ran::RefusedAt {
-            refusal,
-            index: stopped.steps,
-        },
-    }
 }
 
 // The same up to the acknowledgement of a source, if there is one; every arbitration is counted that isn't refused.
@@ -118,31 +82,27 @@ pub fn wait_accepted(
     places: &[u16; PLACES],
     source: u32,
     words: &[u64],
-) -> Waited
+) -> Result<WaitEnd, WaitRefusal>
     requires { LentLaidSource (state image.old memory.old) (list_of all) masks.now places.now source }
-    ensures { Waits (state image.old memory.old) (list_of all) source words.now result (state image.new memory.new) }
+    ensures { outcome result (state image.new memory.new) ≡ wait_of (state image.old memory.old) (list_of all) source (steps_of words.now) }
 {
-    let mut done: usize = 0;
-    let mut made: usize = 0;
-    while done < words.len() {
-        let word = words[done];
-        let a = perform(image, memory, all, masks, places, word);
-        match verdict_of(a) {
-            Verdict::Accepted => {
-                done += 1;
-                made += arbitrations(decode(word));
+    let mut arbitrations: usize = 0;
+    for (done, &word) in words.iter().enumerate() {
+        match perform(image, memory, all, masks, places, word) {
+            Ok(a) => {
+                arbitrations += dispatch::arbitrations(decode(word));
                 if acknowledged(a, source) {
-                    return Waited::Acknowledged { arbitrations: made };
+                    return Ok(WaitEnd::Acknowledged { arbitrations });
                 }
             }
-            Verdict::Refused(refusal) => {
-                return Waited::RefusedAt {
+            Err(refusal) => {
+                return Err(WaitRefusal::At {
                     refusal,
                     index: done,
-                    arbitrations: made,
-                };
+                    arbitrations,
+                });
             }
         }
     }
-    Waited::Ended { arbitrations: made }
+    Ok(WaitEnd::Ended { arbitrations })
 }

@@ -1,14 +1,12 @@
 -- What a promise says of the copy of a list that is lent as bytes it says of the list that they stand for. Assumes nothing.
+use Rattle.rules.specs.Bounds.{Bounded}
+use Rattle.rules.specs.Runs.{Ran, Waited}
 use mathlib.Core.Path.{◌≡◌, subst}
 use mathlib.Core.List.{List}
 use Prim.Native.Nat.{ℕ}
 use Rattle.rules.specs.declared.Channels.{Channels}
-use Rattle.rules.specs.declared.Answer.{Answer}
-use Rattle.rules.specs.declared.Ran.{Ran}
-use Rattle.rules.specs.declared.Waited.{Waited}
-use Rattle.rules.specs.declared.Bounded.{Bounded}
 use Rattle.rules.specs.Image.{Image}
-use Rattle.rules.specs.Outcomes.{State}
+use Rattle.rules.specs.Outcomes.{Answered, State}
 use Rattle.rules.specs.Channels.{list_of}
 use Rattle.rules.specs.Encodings.{list_in, decode_of}
 use Rattle.rules.specs.Promises.{DoesWord, Runs, RunClaims, Waits, WaitClaims, Bounds, BoundClaims, HandlerBounds, HandlerBoundClaims}
@@ -18,7 +16,7 @@ use Rattle.st9.proofs.PromiseLaws.{lent-does, lent_runs, lent-waits, lent_bounds
 module _ (bs : List ℕ) (all : Channels) (e : all ≡ copy_of (list_in bs)) where
   module _ (s : State) where
     -- one step
-    pub packed_does : (w : ℕ) (a : Answer) (t : State) → DoesWord s (list_of all) w a t → DoesWord s (list_in bs) w a t
+    pub packed_does : (w : ℕ) (a : Answered) (t : State) → DoesWord s (list_of all) w a t → DoesWord s (list_in bs) w a t
     packed_does w a t p = lent-does s (list_in bs) (decode_of w) a t (subst (λ (l : Channels). DoesWord s (list_of l) w a t) e p)
 
     -- a run, with what is claimed of it

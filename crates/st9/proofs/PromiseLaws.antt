@@ -1,5 +1,6 @@
 -- What a promise says of the copy it says of the lent list, and what demand 3 and Handlers say of a run, a wait report and a bound that keep theirs.
 -- Assumes nothing.
+use Rattle.std.specs.Prelude.{Err}
 use mathlib.Core.Path.{◌≡◌, refl, sym, subst}
 use mathlib.Core.Bool.{Bool, true, false, cond}
 use mathlib.Core.List.{List}
@@ -9,19 +10,13 @@ use lib.ListN.{length}
 use Rattle.rules.specs.declared.Channel.{Channel}
 use Rattle.rules.specs.declared.Step.{Step}
 use Rattle.rules.specs.declared.Step.TheVariants as step
-use Rattle.rules.specs.declared.Answer.{Answer}
-use Rattle.rules.specs.declared.Ran.{Ran}
-use Rattle.rules.specs.declared.Waited.{Waited}
-use Rattle.rules.specs.declared.Bounded.{Bounded}
-use Rattle.rules.specs.declared.Verdict.{Verdict}
-use Rattle.rules.specs.declared.Verdict.TheVariants as verdict
 use Rattle.rules.specs.declared.Refusal.TheVariants as refusal
 use Rattle.rules.specs.Image.{Image, Memory, image_length, Fits}
 use Rattle.rules.specs.Channels.{most_records, list_of}
-use Rattle.rules.specs.Outcomes.{State, state, alone, Outcome}
+use Rattle.rules.specs.Outcomes.{Answered, State, state, alone, Outcome, Verdict}
 use Rattle.rules.specs.Steps.{lent_verdict, step_of}
-use Rattle.rules.specs.Runs.{run_of, wait_verdict, wait_of}
-use Rattle.rules.specs.Bounds.{bound_of, BoundSays}
+use Rattle.rules.specs.Runs.{run_of, wait_verdict, wait_of, Ran, Waited}
+use Rattle.rules.specs.Bounds.{bound_of, BoundSays, Bounded}
 use Rattle.rules.specs.HandlerBounds.{handler_bound_of, HandlerBoundSays}
 use Rattle.rules.specs.Encodings.{steps_of, told, told_run, told_wait, told_bound}
 use Rattle.rules.specs.Promises.{Does, Reads, Runs, RunClaims, Waits, WaitClaims, Bounds, BoundClaims, HandlerBounds, HandlerBoundClaims}
@@ -36,13 +31,13 @@ use Rattle.lent.proofs.CopyLaws.{through}
 -- ---- a list over twelve is refused, whatever is in it
 
 abbrev refused : Bool → Verdict
-refused b = verdict.Refused (cond b refusal.List refusal.Length)
+refused b = Err (cond b refusal.List refusal.Length)
 
 long-refused : (s : State) (cs : List Channel) → most_records < length cs → lent_verdict s cs ≡ refused (eqb (length s.image) image_length)
 unfolding lent_verdict
 long-refused s cs h = rw (list_long cs h) (go (eqb (length s.image) image_length))
   where
-    go : (b : Bool) → cond b (verdict.Refused refusal.List) (verdict.Refused refusal.Length) ≡ refused b
+    go : (b : Bool) → cond b (Err refusal.List) (Err refusal.Length) ≡ refused b
     go true = refl
     go false = refl
 
@@ -72,9 +67,9 @@ module _ (m : Image) (bs cs : List Channel) (h : most_records < length bs) (k : 
 
 module _ (s : State) (cs : List Channel) where
   -- one step
-  pub lent-does : (x : Step) (a : Answer) (t : State) → Does s (list_of (copy_of cs)) x a t → Does s cs x a t
+  pub lent-does : (x : Step) (a : Answered) (t : State) → Does s (list_of (copy_of cs)) x a t → Does s cs x a t
   lent-does x a t =
-      subst (λ (o : Outcome Answer State). (told a ≡ told o.answer) × (t ≡ o.left))
+      subst (λ (o : Outcome Answered State). (told a ≡ told o.answer) × (t ≡ o.left))
       (through (λ (l : List Channel). step_of s l x) (λ bs ds h k. step_alike s bs ds h k x) cs)
 
   -- a run, with what is claimed of it
@@ -96,9 +91,9 @@ module _ (s : State) (cs : List Channel) where
 
 module _ (m : Image) (cs : List Channel) where
   -- a read, whose promise has the answer alone
-  pub lent_reads : (r : ℕ) (a : Answer) → Reads m (list_of (copy_of cs)) r a → Reads m cs r a
+  pub lent_reads : (r : ℕ) (a : Answered) → Reads m (list_of (copy_of cs)) r a → Reads m cs r a
   lent_reads r a =
-      subst (λ (o : Outcome Answer State). told a ≡ told o.answer)
+      subst (λ (o : Outcome Answered State). told a ≡ told o.answer)
       (through (λ (l : List Channel). step_of (alone m) l (step.Read r)) (λ bs ds h k. step_alike (alone m) bs ds h k (step.Read r)) cs)
 
   -- a bound, with what it says: of either claim

@@ -5,7 +5,7 @@ ghost use Rattle.rules.specs.Registers.{view_verdict};
 ghost use Rattle.rules.specs.Encodings.{told_verdict};
 ghost use Rattle.rules.specs.Promises.{TellsStep, TellsRun, TellsWait, TellsBound, TellsHandlerBound};
 
-use answers::{of_bound, of_run, of_step, of_wait, verdict_number};
+use answers::{Tell, verdict_number};
 use lent::unpacked;
 use rules::Flat;
 
@@ -14,7 +14,7 @@ pub fn st9_step(image: &mut [u8], channels: &[u8], memory: &mut [u8], word: u64)
     ensures { TellsStep (state image.old memory.old) channels.now word result (state image.new memory.new) }
 {
     let all = unpacked(channels);
-    of_step(machine::perform(image, all, memory, word))
+    machine::perform(image, all, memory, word).tell()
 }
 
 // A run of steps given as words; and what demand 3 and the handlers' claim say of it.
@@ -22,7 +22,7 @@ pub fn st9_run(image: &mut [u8], channels: &[u8], memory: &mut [u8], words: &[u6
     ensures { TellsRun (state image.old memory.old) channels.now words.now result (state image.new memory.new) }
 {
     let all = unpacked(channels);
-    of_run(machine::run(image, all, memory, words))
+    machine::run(image, all, memory, words).tell()
 }
 
 // The wait report for a source over steps given as words; and what demand 3 and the handlers' claim say of it.
@@ -36,7 +36,7 @@ pub fn st9_wait(
     ensures { TellsWait (state image.old memory.old) channels.now source words.now result (state image.new memory.new) }
 {
     let all = unpacked(channels);
-    of_wait(machine::wait(image, all, memory, source, words))
+    machine::wait(image, all, memory, source, words).tell()
 }
 
 // Demand 3's bound for a source over steps given as words; and what it says.
@@ -44,7 +44,7 @@ pub fn st9_bound(image: &[u8], channels: &[u8], source: u32, words: &[u64]) -> F
     ensures { TellsBound image.now channels.now source words.now result }
 {
     let all = unpacked(channels);
-    of_bound(machine::bound(image, all, source, words))
+    machine::bound(image, all, source, words).tell()
 }
 
 // The same over lists with reads and writes.
@@ -52,7 +52,7 @@ pub fn st9_handler_bound(image: &[u8], channels: &[u8], source: u32, words: &[u6
     ensures { TellsHandlerBound image.now channels.now source words.now result }
 {
     let all = unpacked(channels);
-    of_bound(machine::handler_bound(image, all, source, words))
+    machine::handler_bound(image, all, source, words).tell()
 }
 
 // The number that the view of a page is refused with, 0 where it is accepted.

@@ -8,10 +8,12 @@ ghost use Rattle.rules.specs.Outcomes.{state};
 ghost use Rattle.rules.specs.Promises.{Reads, Writes, Triggers, Arbitrates, Returns, Resets, DoesWord, RunClaims, WaitClaims, BoundClaims, HandlerBoundClaims, Views, ViewRefuses};
 
 use lent::copied;
-use rules::{Answer, Bounded, Channel, Ran, Trigger, Verdict, Waited};
+use rules::{
+    Answer, Bound, Channel, NoBound, Refusal, Run, RunRefusal, Trigger, WaitEnd, WaitRefusal,
+};
 
 // Reads a register of the selected page or of the register file.
-pub fn read(image: &[u8], cs: &[Channel], register: u32) -> Answer
+pub fn read(image: &[u8], cs: &[Channel], register: u32) -> Result<Answer, Refusal>
     ensures { Reads image.now cs.now register result }
 {
     let all = copied(cs);
@@ -19,7 +21,7 @@ pub fn read(image: &[u8], cs: &[Channel], register: u32) -> Answer
 }
 
 // Writes a register, and answers the pending bits that the write erased.
-pub fn write(image: &mut [u8], cs: &[Channel], register: u32, value: u8) -> Answer
+pub fn write(image: &mut [u8], cs: &[Channel], register: u32, value: u8) -> Result<Answer, Refusal>
     ensures { Writes image.old cs.now register value result image.new }
 {
     let all = copied(cs);
@@ -27,7 +29,7 @@ pub fn write(image: &mut [u8], cs: &[Channel], register: u32, value: u8) -> Answ
 }
 
 // A pin edge, the watchdog's end of count, an NMI edge or a channel request.
-pub fn trigger(image: &mut [u8], cs: &[Channel], event: Trigger) -> Answer
+pub fn trigger(image: &mut [u8], cs: &[Channel], event: Trigger) -> Result<Answer, Refusal>
     ensures { Triggers image.old cs.now event result image.new }
 {
     let all = copied(cs);
@@ -35,7 +37,7 @@ pub fn trigger(image: &mut [u8], cs: &[Channel], event: Trigger) -> Answer
 }
 
 // An arbitration.
-pub fn arbitrate(image: &mut [u8], cs: &[Channel], memory: &mut [u8]) -> Answer
+pub fn arbitrate(image: &mut [u8], cs: &[Channel], memory: &mut [u8]) -> Result<Answer, Refusal>
     ensures { Arbitrates (state image.old memory.old) cs.now result (state image.new memory.new) }
 {
     let all = copied(cs);
@@ -43,7 +45,7 @@ pub fn arbitrate(image: &mut [u8], cs: &[Channel], memory: &mut [u8]) -> Answer
 }
 
 // The return from an interrupt.
-pub fn return_from_interrupt(image: &mut [u8], cs: &[Channel]) -> Answer
+pub fn return_from_interrupt(image: &mut [u8], cs: &[Channel]) -> Result<Answer, Refusal>
     ensures { Returns image.old cs.now result image.new }
 {
     let all = copied(cs);
@@ -51,7 +53,7 @@ pub fn return_from_interrupt(image: &mut [u8], cs: &[Channel]) -> Answer
 }
 
 // A reset.
-pub fn reset(image: &mut [u8], cs: &[Channel]) -> Answer
+pub fn reset(image: &mut [u8], cs: &[Channel]) -> Result<Answer, Refusal>
     ensures { Resets image.old cs.now result image.new }
 {
     let all = copied(cs);
@@ -59,7 +61,12 @@ pub fn reset(image: &mut [u8], cs: &[Channel]) -> Answer
 }
 
 // The step that a word stands for.
-pub fn perform(image: &mut [u8], cs: &[Channel], memory: &mut [u8], word: u64) -> Answer
+pub fn perform(
+    image: &mut [u8],
+    cs: &[Channel],
+    memory: &mut [u8],
+    word: u64,
+) -> Result<Answer, Refusal>
     ensures { DoesWord (state image.old memory.old) cs.now word result (state image.new memory.new) }
 {
     let all = copied(cs);
@@ -67,7 +74,12 @@ pub fn perform(image: &mut [u8], cs: &[Channel], memory: &mut [u8], word: u64) -
 }
 
 // A run of steps given as words; and what demand 3 and the handlers' claim say of it.
-pub fn run(image: &mut [u8], cs: &[Channel], memory: &mut [u8], words: &[u64]) -> Ran
+pub fn run(
+    image: &mut [u8],
+    cs: &[Channel],
+    memory: &mut [u8],
+    words: &[u64],
+) -> Result<Run, RunRefusal>
     ensures { RunClaims (state image.old memory.old) cs.now words.now result (state image.new memory.new) }
 {
     let all = copied(cs);
@@ -81,7 +93,7 @@ pub fn wait(
     memory: &mut [u8],
     source: u32,
     words: &[u64],
-) -> Waited
+) -> Result<WaitEnd, WaitRefusal>
     ensures { WaitClaims (state image.old memory.old) cs.now source words.now result (state image.new memory.new) }
 {
     let all = copied(cs);
@@ -89,7 +101,7 @@ pub fn wait(
 }
 
 // Demand 3's bound for a source over steps given as words: H, E and H + E + 1 where its premises hold, else the first that fails; and that a bound is answered exactly where they hold.
-pub fn bound(image: &[u8], cs: &[Channel], source: u32, words: &[u64]) -> Bounded
+pub fn bound(image: &[u8], cs: &[Channel], source: u32, words: &[u64]) -> Result<Bound, NoBound>
     ensures { BoundClaims image.now cs.now source words.now result }
 {
     let all = copied(cs);
@@ -98,7 +110,12 @@ pub fn bound(image: &[u8], cs: &[Channel], source: u32, words: &[u64]) -> Bounde
 
 // The handlers' claim's: the same over lists with reads and writes, up to the acknowledgement. E counts the pending bits that writes raise too; else the first
 // step that breaks a premise, and of a write what it changed. A bound is answered exactly where the premises hold.
-pub fn handler_bound(image: &[u8], cs: &[Channel], source: u32, words: &[u64]) -> Bounded
+pub fn handler_bound(
+    image: &[u8],
+    cs: &[Channel],
+    source: u32,
+    words: &[u64],
+) -> Result<Bound, NoBound>
     ensures { HandlerBoundClaims image.now cs.now source words.now result }
 {
     let all = copied(cs);
@@ -113,7 +130,7 @@ pub fn view(image: &[u8], page: u32) -> &[u8]
 }
 
 // Whether a view is accepted, or the number that it is refused with.
-pub fn view_verdict(image: &[u8], page: u32) -> Verdict
+pub fn view_verdict(image: &[u8], page: u32) -> Result<(), Refusal>
     ensures { ViewRefuses image.now page result }
 {
     registers::view_verdict(image, page)

@@ -123,20 +123,26 @@ fn serve(image: &mut [u8], all: Channels, places: &[u16; PLACES], source: u8, pa
 }
 
 // Refused with 6 where the pair or the address is over R223.
-fn register_transfer(image: &mut [u8], all: Channels, places: &[u16; PLACES], source: u8) -> Answer
+fn register_transfer(
+    image: &mut [u8],
+    all: Channels,
+    places: &[u16; PLACES],
+    source: u8,
+) -> Result<Answer, Refusal>
     requires { AcceptedPlacesRecord image.old (list_of all) places.now source }
     ensures { ServesRegister image.old (record_of (list_of all) source) source result image.new }
 {
     let n = pair_at(image, byte_of(all, places, source as usize, DCPRS));
     if LAST_REGISTER < n {
-        return Answer::Refused(Refusal::Pointer);
+        return Err(Refusal::Pointer);
     }
     let address = image[n];
     let count = image[n + 1];
     if LAST_REGISTER < (address as usize) {
-        return Answer::Refused(Refusal::Pointer);
+        return Err(Refusal::Pointer);
     }
-    serve(image, all, places, source, Pair { n, address, count })
+    let pair = Pair { n, address, count };
+    Ok(serve(image, all, places, source, pair))
 }
 
 // ---- With the memory.
@@ -211,7 +217,7 @@ fn serve_memory(
     pairs: Pairs,
 ) -> Answer
     requires { AcceptedPlacesRecord image.old (list_of all) places.now source × (pairs.p ≤ last_pair) × (pairs.n ≤ last_pair) × (pairs.address < length memory.old) }
-    ensures { outcome result (state image.new memory.new) ≡ served_memory (state image.old memory.old) (record_of (list_of all) source) source pairs.p pairs.n pairs.address pairs.count }
+    ensures { outcome (Ok result) (state image.new memory.new) ≡ served_memory (state image.old memory.old) (record_of (list_of all) source) source pairs.p pairs.n pairs.address pairs.count }
 {
     let left = less_one_word(pairs.count);
     move_memory(image, memory, all, places, source as usize, pairs.address);
@@ -227,22 +233,22 @@ fn memory_transfer(
     all: Channels,
     places: &[u16; PLACES],
     source: u8,
-) -> Answer
+) -> Result<Answer, Refusal>
     requires { AcceptedPlacesRecord image.old (list_of all) places.now source }
     ensures { outcome result (state image.new memory.new) ≡ memory_transfer (state image.old memory.old) (record_of (list_of all) source) source }
 {
     let n = pair_at(image, byte_of(all, places, source as usize, DCPRS));
     if LAST_PAIR < n {
-        return Answer::Refused(Refusal::Pointer);
+        return Err(Refusal::Pointer);
     }
     let p = pair_at(image, byte_of(all, places, source as usize, DAPRS));
     if LAST_PAIR < p {
-        return Answer::Refused(Refusal::Pointer);
+        return Err(Refusal::Pointer);
     }
     let address = word_at(image, p);
     let count = word_at(image, n);
     if memory.len() <= (address as usize) {
-        return Answer::Refused(Refusal::Address);
+        return Err(Refusal::Address);
     }
     let pairs = Pairs {
         p,
@@ -250,7 +256,7 @@ fn memory_transfer(
         address,
         count,
     };
-    serve_memory(image, memory, all, places, source, pairs)
+    Ok(serve_memory(image, memory, all, places, source, pairs))
 }
 
 // A DMA service: with the memory where DCPR bit 0 is 0, else with the register file.
@@ -260,7 +266,7 @@ pub fn transfer(
     all: Channels,
     places: &[u16; PLACES],
     source: u8,
-) -> Answer
+) -> Result<Answer, Refusal>
     requires { AcceptedPlacesRecord image.old (list_of all) places.now source }
     ensures { outcome result (state image.new memory.new) ≡ transfer_of (state image.old memory.old) (record_of (list_of all) source) source }
 {

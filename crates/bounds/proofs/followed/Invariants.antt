@@ -1,7 +1,8 @@
 -- The invariant: what is answered of all the words is what is answered of those that are left, after the steps done on the copy, with the triggers counted so far
 -- and the first arbitration with interrupts disabled, if there was one.
 use mathlib.Core.Path.{◌≡◌}
-use Prim.Native.Nat.{◌-◌, ◌≤◌}
+use Prim.Native.Nat.{◌≤◌}
+use Rattle.std.specs.Prelude.{None}
 use lib.ListN.{length, drop}
 use Rattle.rules.specs.Image.{image_length}
 use Rattle.rules.specs.Channels.{list_of}
@@ -12,13 +13,10 @@ use Rattle.rules.specs.Encodings.{steps_of}
 use Rattle.bounds.specs.Followed.{followed_from}
 use Rattle.bounds.proofs.followed.Given as goal
 
-abbrev pub invariant-loop-done : goal.invariant-loop-done
-invariant-loop-done l =
+abbrev pub invariant-loop-index : goal.invariant-loop-index
+invariant-loop-index l =
     let among = rival l.image (list_of l.all) l.ours in
     let h = H l.image (list_of l.all) l.ours in
-    (l.done ≤ length l.words) × (l.triggers ≤ l.done) × (length l.copy ≡ image_length)
-    × (followed_from among h l.end 0 l.end 0 (history (alone l.image) (list_of l.all) (steps_of l.words))
-    ≡ followed_from among h l.end l.done l.disabled l.triggers (history (alone l.copy) (list_of l.all) (steps_of (drop l.done l.words))))
-
-abbrev pub decreases-loop-done : goal.decreases-loop-done
-decreases-loop-done l = length l.words - l.done
+    (l.index ≤ length l.words) × (l.triggers ≤ l.index) × (length l.copy ≡ image_length)
+    × (followed_from among h 0 None 0 (history (alone l.image) (list_of l.all) (steps_of l.words))
+    ≡ followed_from among h l.index l.disabled l.triggers (history (alone l.copy) (list_of l.all) (steps_of (drop l.index l.words))))

@@ -15,6 +15,3 @@ pub overflow_add-result-2 : goal.overflow_add-result-2
 overflow_add-result-2 c =
     let few : c.pending_rivals-outranking.result ≤ 20 = omega (arith, c.pending_rivals-outranking.ensures, few-pending _ c.requires.1 c.args.image.now (rival c.args.image.now (list_of c.args.all) c.args.ours)) in
     omega (arith, few)
-
-pub returns : goal.returns
-returns c = rw c.pending_rivals-outranking.ensures

@@ -1,14 +1,13 @@
 -- Each arm is the definition's.
 use mathlib.Core.Path.{◌≡◌, ap}
-use Rattle.rules.specs.declared.Answer.{Answer}
 use Rattle.rules.specs.Image.{Image, Memory}
-use Rattle.rules.specs.Outcomes.{state, Outcome, outcome}
+use Rattle.rules.specs.Outcomes.{state, Outcome, outcome, Answered}
 use Rattle.rules.specs.Steps.{act_of}
 use Rattle.dispatch.proofs.act.Goals as goal
 
 -- what is answered and left of the image is the step's outcome, with the memory as it was
-made : {memory : Memory} {c d : Outcome Answer Image} → c ≡ d → outcome c.answer (state c.left memory) ≡ outcome d.answer (state d.left memory)
-made {memory} = ap (λ (c : Outcome Answer Image). outcome c.answer (state c.left memory))
+made : {memory : Memory} {c d : Outcome Answered Image} → c ≡ d → outcome c.answer (state c.left memory) ≡ outcome d.answer (state d.left memory)
+made {memory} = ap (λ (c : Outcome Answered Image). outcome c.answer (state c.left memory))
 
 pub returns-in-Read : goal.returns-in-Read
 unfolding act_of

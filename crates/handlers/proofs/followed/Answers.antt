@@ -1,54 +1,65 @@
-use mathlib.Core.Path.{refl, sym, ◌∙◌}
+use mathlib.Core.Bool.{false}
+use mathlib.Core.Path.{◌≡◌, refl, sym, ap, ◌∙◌}
 use Prim.Native.Nat.{◌≤◌}
 use native.Mathlib.Omega.{arith}
 use borrow.Author.Rules.{rules}
+use Rattle.std.specs.Prelude.{Ok, Err}
+use Rattle.std.proofs.lemmas.Result.{err_from_is_err_and}
+use Rattle.rules.specs.Outcomes.{acknowledges}
 use Rattle.dispatch.proofs.NextSteps.{next_alone, no_word}
 use Rattle.handlers.proofs.FollowLaws.{follows_few, broken_some, broken-none, followed-start, followed_end, followed-broken, followed-last, followed_on}
+use Rattle.handlers.proofs.followed.Goals.{in-Ok+else-acknowledged, in_default}
 use Rattle.handlers.proofs.followed.Goals as goal
 
-pub loop-done-init : goal.loop-done-init
-loop-done-init c = (omega arith, omega arith, search rules, rw c.copy_of-copy.ensures)
+pub loop-index-init : goal.loop-index-init
+loop-index-init c = (omega arith, omega arith, search rules, rw c.copy_of-copy.ensures)
 
-pub returns-in-Fail : goal.returns-in-Fail
-returns-in-Fail c =
-    let i = c.loop-done.invariant in
-    sym (followed-start _ _ _ _
+pub returns-in_err-seen : goal.returns-in_err-seen
+returns-in_err-seen c =
+    let i = c.loop-index.invariant in
+    let p = err_from_is_err_and c.from_residual.result c.from_residual.ensures.1 in
+    let failed : c.follow-seen.result.broken ≡ Err c.in_err-seen.field-0.0 = grind arith in
+    rw (p.1, p.2) (sym (followed-start _ _ _ _
     ∙ i.3
     ∙ followed-broken _ _ _ _ _
-    (next_alone _ _ i.2 c.requires.1 c.loop-done-test.true refl c.follow-f.ensures.did) _ _
-    (broken_some _ _ (sym c.follow-f.ensures.breaks ∙ c.in-Fail.is)))
+    (next_alone _ _ i.2 c.requires.1 c.loop-index-test.true refl c.follow-seen.ensures.did) _ _
+    (broken_some _ _ (sym c.follow-seen.ensures.breaks ∙ failed))))
 
 pub overflow_add-triggers : goal.overflow_add-triggers
 overflow_add-triggers c =
-    let few : c.follow-f.result.more ≤ 12 = follows_few _ _ _ _ _ _ _ _ c.requires.1 c.follow-f.ensures in
+    let few : c.follow-seen.result.more ≤ 12 = follows_few _ _ _ _ _ _ _ _ c.requires.1 c.follow-seen.ensures in
     omega (arith, few)
 
 pub within-requires : goal.within-requires
 within-requires c =
-    let few : c.follow-f.result.more ≤ 12 = follows_few _ _ _ _ _ _ _ _ c.requires.1 c.follow-f.ensures in
+    let few : c.follow-seen.result.more ≤ 12 = follows_few _ _ _ _ _ _ _ _ c.requires.1 c.follow-seen.ensures in
     (c.requires.0, c.requires.1, c.requires.3, c.requires.4, omega (arith, few))
 
 pub returns-then-acknowledged : goal.returns-then-acknowledged
 returns-then-acknowledged c =
-    let i = c.loop-done.invariant in
+    let i = c.loop-index.invariant in
     sym (followed-start _ _ _ _
     ∙ i.3
     ∙ followed-last _ _ _ _ _
-    (next_alone _ _ i.2 c.requires.1 c.loop-done-test.true refl c.follow-f.ensures.did) _
-    (broken-none _ (sym c.follow-f.ensures.breaks ∙ c.in-Hold.is)) (sym c.acknowledged.ensures ∙ c.if-acknowledged.true)
-    ∙ rw (c.within.ensures, c.follow-f.ensures.counts))
+    (next_alone _ _ i.2 c.requires.1 c.loop-index-test.true refl c.follow-seen.ensures.did) _
+    (broken-none _ (sym c.follow-seen.ensures.breaks ∙ (let held : c.follow-seen.result.broken ≡ Ok tt = grind arith in held))) (ap (acknowledges c.args.source) c.in-Ok.is ∙ sym c.acknowledged.ensures ∙ c.if-acknowledged.true)
+    ∙ rw (c.within.ensures, c.follow-seen.ensures.counts))
 
-pub loop-done-preserved : goal.loop-done-preserved
-loop-done-preserved c =
-    let few : c.follow-f.result.more ≤ 12 = follows_few _ _ _ _ _ _ _ _ c.requires.1 c.follow-f.ensures in
-    let i = c.loop-done.invariant in (
+pub loop-index-preserved : goal.loop-index-preserved
+loop-index-preserved c =
+    let few : c.follow-seen.result.more ≤ 12 = follows_few _ _ _ _ _ _ _ _ c.requires.1 c.follow-seen.ensures in
+    let kept : acknowledges c.args.source c.follow-seen.result.answer ≡ false = elim c.match-seen.branch [
+      | in-Ok+else-acknowledged w ↦ ap (acknowledges c.args.source) w.in-Ok.is ∙ sym w.acknowledged.ensures ∙ w.if-acknowledged.false
+      | in_default w ↦ ap (acknowledges c.args.source) w.in_default.is
+    ] in
+    let i = c.loop-index.invariant in (
       omega arith,
       omega (arith, few),
       search rules,
-      rw c.follow-f.ensures.counts (i.3
+      rw c.follow-seen.ensures.counts (i.3
           ∙ followed_on _ _ _ _ _
-          (next_alone _ _ i.2 c.requires.1 c.loop-done-test.true refl c.follow-f.ensures.did) _
-          (broken-none _ (sym c.follow-f.ensures.breaks ∙ c.in-Hold.is)) (sym c.acknowledged.ensures ∙ c.if-acknowledged.false)),
+          (next_alone _ _ i.2 c.requires.1 c.loop-index-test.true refl c.follow-seen.ensures.did) _
+          (broken-none _ (sym c.follow-seen.ensures.breaks ∙ (let held : c.follow-seen.result.broken ≡ Ok tt = grind arith in held))) kept),
     )
 
 pub within-requires-2 : goal.within-requires-2
@@ -56,4 +67,4 @@ within-requires-2 c =
     (c.requires.0, c.requires.1, c.requires.3, c.requires.4, omega arith)
 
 pub returns : goal.returns
-returns c = sym (followed-start _ _ _ _ ∙ c.loop-done.invariant.3 ∙ followed_end _ _ _ _ _ _ _ (no_word _ _ c.loop-done-test.false) ∙ sym c.within-2.ensures)
+returns c = sym (followed-start _ _ _ _ ∙ c.loop-index.invariant.3 ∙ followed_end _ _ _ _ _ _ _ (no_word _ _ c.loop-index-test.false) ∙ sym c.within-2.ensures)

@@ -1,16 +1,25 @@
--- Where the verdict accepts the premises are looked at, and else the bound is refused; the definition goes by the same verdict.
-use mathlib.Core.Path.{refl, sym, ◌∙◌}
+-- Where what is lent is accepted the premises are looked at, and else it is refused; the definition goes by the same verdict.
+use mathlib.Core.Path.{◌≡◌, refl, sym, ◌∙◌}
+use native.Mathlib.Omega.{arith}
+use Rattle.std.specs.Prelude.{Err}
+use Rattle.std.proofs.lemmas.Result.{err_from_is_err_and}
+use Rattle.rules.specs.Outcomes.{accepted}
 use Rattle.machine.proofs.LentLaws.{source_laid, bounds_by}
 use Rattle.machine.proofs.bound.Goals as goal
 
+pub returns-in_err-wait_verdict : goal.returns-in_err-wait_verdict
+returns-in_err-wait_verdict c =
+    let p = err_from_is_err_and c.from_residual.result c.from_residual.ensures.1 in
+    let v : c.wait_verdict.result ≡ Err c.in_err-wait_verdict.field-0.0 = grind arith in
+    rw (p.1, p.2) (bounds_by _ _ _ _ _ _ (sym c.wait_verdict.ensures.0 ∙ v) refl)
+
 pub bound_accepted-requires : goal.bound_accepted-requires
 bound_accepted-requires c =
-    let l = source_laid _ _ _ _ c.in-Accepted.is _ c.wait_verdict.ensures in
+    let v : c.wait_verdict.result ≡ accepted = grind arith in
+    let l = source_laid _ _ _ _ v _ c.wait_verdict.ensures in
     (l.0, l.1, l.2, l.3, l.5)
 
-pub returns-in-Accepted : goal.returns-in-Accepted
-returns-in-Accepted c =
-    bounds_by _ _ _ _ _ _ (sym c.wait_verdict.ensures.0 ∙ c.in-Accepted.is) c.bound_accepted.ensures
-
-pub returns-in-Refused : goal.returns-in-Refused
-returns-in-Refused c = bounds_by _ _ _ _ _ _ (sym c.wait_verdict.ensures.0 ∙ c.in-Refused.is) refl
+pub returns : goal.returns
+returns c =
+    let v : c.wait_verdict.result ≡ accepted = grind arith in
+    bounds_by _ _ _ _ _ _ (sym c.wait_verdict.ensures.0 ∙ v) c.bound_accepted.ensures

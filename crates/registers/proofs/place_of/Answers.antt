@@ -12,7 +12,7 @@ use lib.ListN.{get_or}
 use borrow.Author.Tests.{lt-ltb, le-ltb, lt-leb, le-leb, ne_eqb}
 use Rattle.rules.specs.declared.Channel.{Channel}
 use Rattle.rules.specs.declared.Place.{Place}
-use Rattle.rules.specs.declared.Place.TheVariants.{Unmodelled}
+use Rattle.std.specs.Prelude.{Option, None}
 use Rattle.rules.specs.Image.{Image, at, page_byte, PPR}
 use Rattle.rules.specs.Registers.{page_of, page_zero, place_of}
 use Rattle.channels.specs.Laid.{LaidMasks, bits_in, place_by}
@@ -24,8 +24,8 @@ page_high m byte = omega arith
 
 -- a register of the page that PPR selects, by the page's row
 module _ (m : Image) (cs : List Channel) (masks : List ℕ) (laid : LaidMasks cs masks) (byte : Fits w8 (at m PPR)) (r : ℕ) (lo : 240 ≤ r) (hi : r ≤ 255)
-    (p : Place) where
-  without-row : get_or masks (page_of m) 0 ≡ 0 → p ≡ cond (eqb (page_of m) 0) (page_zero r) Unmodelled → p ≡ place_of m cs r
+    (p : Option Place) where
+  without-row : get_or masks (page_of m) 0 ≡ 0 → p ≡ cond (eqb (page_of m) 0) (page_zero r) None → p ≡ place_of m cs r
   unfolding place_of
   without-row e placed =
       placed ∙ rw (le-ltb r 240 lo, le-leb r 255 hi, laid_without_row laid (page_of m) (page_high m byte) e r lo hi)

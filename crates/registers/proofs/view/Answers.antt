@@ -9,12 +9,12 @@ use Rattle.registers.proofs.view.Goals as goal
 
 pub slice_bounds-result-end : goal.slice_bounds-result-end
 slice_bounds-result-end c =
-    let fits = view_only _ _ (sym c.view_verdict.ensures ∙ c.in-Accepted.is) in
+    let fits = view_only _ _ (sym c.view_verdict.ensures ∙ c.in-Ok.is) in
     omega (arith, fits.0, fits.1)
 
-pub returns-in-Accepted : goal.returns-in-Accepted
+pub returns-in-Ok : goal.returns-in-Ok
 unfolding view_of page_byte
-returns-in-Accepted c = simp (sym c.view_verdict.ensures, c.in-Accepted.is, add-zero, add-sub_cancel_left)
+returns-in-Ok c = simp (sym c.view_verdict.ensures, c.in-Ok.is, add-zero, add-sub_cancel_left)
 
-pub returns-in-Refused : goal.returns-in-Refused
-returns-in-Refused c = sym (view_empty _ _ _ (sym c.view_verdict.ensures ∙ c.in-Refused.is))
+pub returns-in-Err : goal.returns-in-Err
+returns-in-Err c = sym (view_empty _ _ _ (sym c.view_verdict.ensures ∙ c.in-Err.is))

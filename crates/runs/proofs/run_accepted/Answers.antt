@@ -1,17 +1,34 @@
--- A run answers by where its steps stopped; the arms are those of the definition.
-use mathlib.Core.Path.{sym, ◌∙◌}
-use Rattle.rules.specs.Encodings.{told_run}
-use Rattle.runs.proofs.RunSteps.{run-stopped, promised}
+use mathlib.Core.Path.{◌≡◌, refl, sym, ◌∙◌}
+use native.Mathlib.Omega.{arith}
+use Prim.Native.Nat.{◌≤◌}
+use lib.ListN.{length}
+use borrow.Author.Rules.{rules}
+use Rattle.dispatch.proofs.NextSteps.{next_word, no_word}
+use Rattle.runs.proofs.RunSteps.{run_starts, run_on, run_stop, run_end}
 use Rattle.runs.proofs.run_accepted.Goals as goal
 
-pub returns-in-Accepted : goal.returns-in-Accepted
-returns-in-Accepted c =
-    let s = c.requires in
-    let v = sym c.verdict_of.ensures ∙ c.in-Accepted.is in
-    promised told_run (run-stopped _ _ _ s.0 s.1 s.4 _ _ _ v c.steps_of-stopped.ensures)
+pub loop-index-init : goal.loop-index-init
+loop-index-init c = let s = c.requires in (omega arith, refl, refl, run_starts _ _ s.0 s.1 s.4 _)
 
-pub returns-in-Refused : goal.returns-in-Refused
-returns-in-Refused c =
+pub loop-index-preserved : goal.loop-index-preserved
+loop-index-preserved c =
+    let i = c.loop-index.invariant in
+    let s = c.requires in (
+      omega arith,
+      search rules,
+      search rules,
+      i.3 ∙ run_on (next_word _ _ (i.1 ∙ s.0) s.1 (rw i.2 s.4) c.loop-index-test.true c.decode.ensures (rw c.in-Ok.is at c.act.ensures)) _ _,
+    )
+
+pub returns-in-Err : goal.returns-in-Err
+returns-in-Err c =
+    let i = c.loop-index.invariant in
     let s = c.requires in
-    let v = sym c.verdict_of.ensures ∙ c.in-Refused.is in
-    promised told_run (run-stopped _ _ _ s.0 s.1 s.4 _ _ _ v c.steps_of-stopped.ensures)
+    sym (i.3 ∙ run_stop (next_word _ _ (i.1 ∙ s.0) s.1 (rw i.2 s.4) c.loop-index-test.true c.decode.ensures (rw c.in-Err.is at c.act.ensures)) _ _)
+
+pub returns : goal.returns
+returns c =
+    let i = c.loop-index.invariant in
+    let all : length c.args.words.now ≡ c.loop-index.index = omega (arith, i.0, c.loop-index-test.false) in
+    let left : length c.args.words.now ≤ c.loop-index.index = omega (arith, all) in
+    rw all (sym (i.3 ∙ run_end _ _ (no_word _ _ left) _ _))

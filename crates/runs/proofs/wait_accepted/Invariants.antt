@@ -1,9 +1,9 @@
 -- The invariant: the wait report of all the words is that of what is left, after the steps done and the arbitrations made, which are no more than
 -- the steps.
 use mathlib.Core.Path.{◌≡◌}
-use Prim.Native.Nat.{◌-◌, ◌≤◌}
+use Prim.Native.Nat.{◌≤◌}
 use lib.ListN.{length, drop}
-use Rattle.rules.specs.declared.Answer.TheVariants as answer
+use Rattle.std.specs.Prelude.{None}
 use Rattle.rules.specs.Channels.{list_of}
 use Rattle.rules.specs.Outcomes.{state}
 use Rattle.rules.specs.Runs.{wait_events, wait_of}
@@ -14,9 +14,6 @@ use Rattle.runs.proofs.wait_accepted.Given as goal
 abbrev pub invariant-loop-done : goal.invariant-loop-done
 invariant-loop-done l =
     let s = state l.image l.memory in
-    (l.done ≤ length l.words) × (l.made ≤ l.done) × (length l.image ≡ length l.initial.image) × (length l.memory ≡ length l.initial.memory)
+    (l.done ≤ length l.words) × (l.arbitrations ≤ l.done) × (length l.image ≡ length l.initial.image) × (length l.memory ≡ length l.initial.memory)
     × (wait_of (state l.initial.image l.initial.memory) (list_of l.all) l.source (steps_of l.words)
-    ≡ wait_from l.source s l.done l.made answer.NoStep (wait_events s (list_of l.all) l.source (steps_of (drop l.done l.words))))
-
-abbrev pub decreases-loop-done : goal.decreases-loop-done
-decreases-loop-done l = length l.words - l.done
+    ≡ wait_from l.source s l.done l.arbitrations None (wait_events s (list_of l.all) l.source (steps_of (drop l.done l.words))))

@@ -38,8 +38,8 @@ overflow_cast-at c =
     let placed : Placed (list_of c.args.all) c.args.places.now c.args.number = record_placed c.requires.1 c.requires.2 c.args.number (omega (arith, c.requires.2.count, c.if-places-k.false)) in
     omega (arith, placed.idcr.1)
 
-pub raise-requires : goal.raise-requires
-raise-requires c =
+pub raise-effect-requires : goal.raise-effect-requires
+raise-effect-requires c =
     let placed : Placed (list_of c.args.all) c.args.places.now c.args.number = record_placed c.requires.1 c.requires.2 c.args.number (omega (arith, c.requires.2.count, c.if-places-k.false)) in
     (omega (arith, c.requires.0, placed.idcr.1), omega arith)
 
@@ -50,7 +50,7 @@ returns c =
     simp (
       lt-ltb _ _ placed.there,
       record-pending (list_of c.args.all) c.args.number,
-      c.raise.ensures.0,
-      c.raise.ensures.1,
+      c.raise-effect.ensures.0,
+      c.raise-effect.ensures.1,
       placed.idcr.0,
     )

@@ -12,8 +12,8 @@ unfolding trigger_of fired trigger_verdict selects selects_top source_effect rai
 returns c cs =
     simp (
       le-ltb _ _ c.if-direction-gt1.false,
-      c.raise.ensures.0,
-      c.raise.ensures.1,
+      c.raise-effect.ensures.0,
+      c.raise-effect.ensures.1,
       c.edge_matches.ensures,
       c.has_bit-2.ensures,
       c.has_bit.ensures,

@@ -28,8 +28,8 @@ has_bit-requires c =
     let args = c.args in
     low-pin args.pin args.direction c.if-pin-direction.false
 
-pub raise-requires : goal.raise-requires
-raise-requires c =
+pub raise-effect-requires : goal.raise-effect-requires
+raise-effect-requires c =
     let args = c.args in
     (omega (arith, c.requires), low-pin args.pin args.direction c.if-pin-direction.false)
 
@@ -42,8 +42,8 @@ returns c cs =
       c.if-pin-direction.false,
       external_effect args.image.now cs args.pin low,
       external-raised args.image.now cs args.pin low,
-      c.raise.ensures.0,
-      c.raise.ensures.1,
+      c.raise-effect.ensures.0,
+      c.raise-effect.ensures.1,
       c.has_bit-2.ensures,
       c.edge_matches-matches.ensures,
       c.has_bit.ensures,

@@ -6,7 +6,7 @@ use Rattle.handlers.proofs.changes.any_changed.Goals as goal
 
 pub loop-k-init : goal.loop-k-init
 unfolding any_below
-loop-k-init c = record { within = omega arith; all = c.source_count-end.ensures; none = refl }
+loop-k-init c = record { within = omega arith; all = c.source_count-k-end.ensures; none = refl }
 
 pub source_changed-requires : goal.source_changed-requires
 source_changed-requires c =

@@ -2,20 +2,19 @@ use mathlib.Core.Path.{◌≡◌, refl, sym, ap, ◌∙◌}
 use mathlib.Core.Bool.{Bool, true, false}
 use mathlib.Core.Option.{none, some}
 use Prim.Native.Nat.{ℕ, ◌+◌, ◌≤◌, ◌<◌}
-use native.Mathlib.Omega.{arith}
 use native.Mathlib.Numerals.{add-one}
 use lib.ListN.{get_or, drop, drop_of_length-le}
 use lib.Seq.{drop-cons}
 use Rattle.rules.specs.declared.Basis.{Basis}
 use Rattle.rules.specs.declared.Basis.TheVariants as basis
-use Rattle.rules.specs.declared.Bounded.TheVariants as bounded
+use Rattle.rules.specs.declared.NoBound.TheVariants as no_bound
 use Rattle.rules.specs.HandlerBounds.{bases, first_changed}
 use Rattle.handlers.specs.Handled.{broken}
 use Rattle.handlers.proofs.changes.first_changed.Goals as goal
 
 -- the k-th is the first of those from k on: answered where it changed, else passed over
 module _ (p : Basis → Bool) (i k : ℕ) (b : Basis) (h : k < 7) (e : b ≡ get_or bases k basis.Pending) where
-  changed-here : p b ≡ true → first_changed p (drop k bases) i ≡ some (bounded.Changed b i)
+  changed-here : p b ≡ true → first_changed p (drop k bases) i ≡ some (no_bound.Changed b i)
   unfolding first_changed
   changed-here t = rw (drop-cons bases k basis.Pending h, ← e, t)
 
@@ -27,19 +26,13 @@ none_left : (p : Basis → Bool) (i k : ℕ) → 7 ≤ k → first_changed p (dr
 unfolding first_changed
 none_left p i k h = rw (drop_of_length-le bases h)
 
-pub loop-k-init : goal.loop-k-init
-loop-k-init c = (omega arith, refl)
-
 pub returns-then-changed : goal.returns-then-changed
 returns-then-changed c =
-    sym (ap broken (c.loop-k.invariant.1
-    ∙ changed-here _ _ _ _ c.loop-k-test.true c.basis_at-basis.ensures (sym c.changed.ensures ∙ c.if-changed.true)))
+    sym (ap broken (c.loop-basis.invariant.1 ∙ changed-here _ _ _ _ c.loop-basis-test.true refl (sym c.changed.ensures ∙ c.if-changed.true)))
 
-pub loop-k-preserved : goal.loop-k-preserved
-loop-k-preserved c = (
-  omega arith,
-  c.loop-k.invariant.1 ∙ not-here _ _ _ _ c.loop-k-test.true c.basis_at-basis.ensures (sym c.changed.ensures ∙ c.if-changed.false),
-)
+pub loop-basis-preserved : goal.loop-basis-preserved
+loop-basis-preserved c =
+    (refl, c.loop-basis.invariant.1 ∙ not-here _ _ _ _ c.loop-basis-test.true refl (sym c.changed.ensures ∙ c.if-changed.false))
 
 pub returns : goal.returns
-returns c = sym (ap broken (c.loop-k.invariant.1 ∙ none_left _ _ _ c.loop-k-test.false))
+returns c = sym (ap broken (c.loop-basis.invariant.1 ∙ none_left _ _ _ c.loop-basis-test.false))

@@ -1,6 +1,5 @@
 -- The invariant: n counts those below k.
 use mathlib.Core.Bool.{not, ◌&&◌}
-use Prim.Native.Nat.{◌-◌}
 use Rattle.rules.specs.Channels.{list_of}
 use Rattle.rules.specs.Sources.{sources, pending}
 use Rattle.rules.specs.Demand3.{rival}
@@ -9,7 +8,4 @@ use Rattle.handlers.proofs.changes.raised_rivals.Given as goal
 
 abbrev pub invariant-loop-k : goal.invariant-loop-k
 invariant-loop-k l =
-    SoMany (λ j. not (pending l.before (list_of l.all) j) && pending l.after (list_of l.all) j && rival l.start (list_of l.all) l.ours j) (sources (list_of l.all)) l.end l.n l.k
-
-abbrev pub decreases-loop-k : goal.decreases-loop-k
-decreases-loop-k l = l.end - l.k
+    SoMany (λ j. not (pending l.before (list_of l.all) j) && pending l.after (list_of l.all) j && rival l.start (list_of l.all) l.ours j) (sources (list_of l.all)) l.k-end l.n l.k

@@ -7,6 +7,6 @@ returns c =
     let u = c.unpacked-all in
     let a = c.args in (
       c.bound.result,
-      c.of_bound.ensures,
+      c.tell.ensures,
       packed_bounds a.channels.now u.result u.ensures a.image.now a.source a.words.now c.bound.result c.bound.ensures,
     )

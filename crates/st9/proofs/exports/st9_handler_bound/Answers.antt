@@ -7,6 +7,6 @@ returns c =
     let u = c.unpacked-all in
     let a = c.args in (
       c.handler_bound.result,
-      c.of_bound.ensures,
+      c.tell.ensures,
       packed_handler_bounds a.channels.now u.result u.ensures a.image.now a.source a.words.now c.handler_bound.result c.handler_bound.ensures,
     )

@@ -9,6 +9,6 @@ returns c =
     let u = c.unpacked-all in
     let a = c.args in (
       d.result,
-      c.of_step.ensures,
+      c.tell.ensures,
       packed_does a.channels.now u.result u.ensures (state a.image.now a.memory.now) a.word d.result (state d.new.image d.new.memory) d.ensures,
     )

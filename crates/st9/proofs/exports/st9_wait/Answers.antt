@@ -9,6 +9,6 @@ returns c =
     let u = c.unpacked-all in
     let a = c.args in (
       d.result,
-      c.of_wait.ensures,
+      c.tell.ensures,
       packed_waits a.channels.now u.result u.ensures (state a.image.now a.memory.now) a.source a.words.now d.result (state d.new.image d.new.memory) d.ensures,
     )
