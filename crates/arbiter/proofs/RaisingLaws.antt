@@ -1,25 +1,14 @@
--- What a trigger that selects an external channel, or not, does to its bit of EIPR. Assumes nothing.
+-- What the watchdog's end of count does to the maskable bit leaves TLIP. Assumes nothing.
 use mathlib.Core.Path.{◌≡◌, refl}
-use mathlib.Core.List.{List}
-use mathlib.Core.Option.{none, some}
-use mathlib.Core.Bool.{Bool, true, false, cond}
-use Prim.Native.Nat.{ℕ, ◌<◌}
-use borrow.Author.Tests.{lt-ltb}
-use Rattle.rules.specs.declared.Channel.{Channel}
-use Rattle.rules.specs.declared.Effect.TheVariants as effect
-use Rattle.rules.specs.Image.{Image, bit_of, has, put, EIPR}
-use Rattle.rules.specs.Sources.{pending_bit, pending}
-use Rattle.rules.specs.Triggers.{effect_on, source_effect, raise_source}
+use mathlib.Core.Logic.{inl}
+use mathlib.Core.Bool.{Bool, true, cond}
+use native.Mathlib.Omega.{arith}
+use lib.Dec.{lit<}
+use Rattle.rules.specs.Image.{Image, bit_of, has, put, EIPR, TLIP}
+use Rattle.rules.proofs.Bools.{cond_elim}
+use Rattle.rules.proofs.ImageLaws.{has-put_other}
 
-module _ (m : Image) (cs : List Channel) (s : ℕ) (external : s < 8) where
-  -- what is answered for it
-  pub external_effect : (b : Bool) → source_effect m cs (cond b (some s) none) ≡ cond b (effect_on (has m (bit_of EIPR s))) effect.NotSelected
-  unfolding source_effect pending pending_bit
-  external_effect true = rw (lt-ltb s 8 external)
-  external_effect false = refl
-
-  -- and the image after it
-  pub external-raised : (b : Bool) → raise_source m cs (cond b (some s) none) ≡ cond b (put m (bit_of EIPR s) true) m
-  unfolding raise_source pending_bit
-  external-raised true = rw (lt-ltb s 8 external)
-  external-raised false = refl
+-- TLIP is no bit of EIPR
+pub top_stays : (m : Image) (b : Bool) → has (cond b (put m (bit_of EIPR 0) true) m) TLIP ≡ has m TLIP
+top_stays m b =
+    cond_elim (λ i. has i TLIP ≡ has m TLIP) b (λ t. has-put_other m (bit_of EIPR 0) true TLIP (lit< tt) (lit< tt) (inl (λ e. omega arith))) (λ f. refl)

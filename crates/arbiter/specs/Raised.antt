@@ -1,5 +1,5 @@
 -- Names for private functions: of a trigger and of an interrupt that has won. Assumes nothing.
-use Rattle.std.specs.Prelude.{◌≡◌, Bool, true, cond, List, ℕ, Ok}
+use Rattle.std.specs.Prelude.{◌≡◌, Bool, true, cond, List, ℕ, Ok, Some}
 use Rattle.rules.specs.declared.Channel.{Channel}
 use Rattle.rules.specs.declared.Trigger.{Trigger}
 use Rattle.rules.specs.declared.Effect.{Effect}
@@ -27,4 +27,4 @@ Fires before t answered after = (cs : List Channel) → FiresIn before cs t answ
 -- an interrupt of this source and level gets what the winner gets, whatever the memory
 abbrev pub Acknowledges : Image → List Channel → ℕ → ℕ → Answer → Image → Type 0
 Acknowledges before cs source level answered after =
-    (memory : Memory) → outcome (Ok answered) (state after memory) ≡ granted (state before memory) cs (winner.Interrupt source level)
+    (memory : Memory) → outcome (Ok answered) (state after memory) ≡ granted (state before memory) cs (Some (winner.Interrupt source level))

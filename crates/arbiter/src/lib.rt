@@ -5,55 +5,54 @@ mod acknowledgement;
 mod nesting;
 mod triggers;
 
-ghost use Rattle.std.specs.Prelude.{◌≡◌, length};
-ghost use Rattle.rules.specs.Image.{image_length, in_service};
+ghost use Rattle.std.specs.Prelude.{◌≡◌};
+ghost use Rattle.rules.specs.Image.{in_service};
 ghost use Rattle.rules.specs.Channels.{list_of};
 ghost use Rattle.rules.specs.Outcomes.{state, outcome};
 ghost use Rattle.rules.specs.Triggers.{trigger_of};
 ghost use Rattle.rules.specs.Arbitration.{top_level, entered_top, arbitrate_of};
 ghost use Rattle.rules.specs.Return.{return_of};
-ghost use Rattle.channels.specs.Laid.{AcceptedPlaces};
 
 use acknowledgement::acknowledge;
 use bits::has_bit;
-use channels::PLACES;
+use channels::Places;
 use fields::put_at;
 use nesting::unnest;
 use requests::winner_of;
-use rules::{Answer, CICR, Channels, IEN, MARK, NICR, Refusal, TLI, TLIP, TLNM, Trigger, Winner};
+use rules::{
+    Answer, CICR, IEN, IMAGE_LENGTH, MARK, NICR, Refusal, TLI, TLIP, TLNM, Trigger, Winner,
+};
 use transfers::transfer;
 use triggers::{channel_request, nmi_edge, pin_edge, watchdog};
 
 // A trigger: refused with 4 or 7, or answered for the maskable bit and for TLIP.
+#[tactic(auto, unfolding(rules::specs::Triggers::trigger_of, rules::specs::Triggers::fired, rules::specs::Triggers::trigger_verdict))]
 pub fn trigger(
-    image: &mut [u8],
-    all: Channels,
-    places: &[u16; PLACES],
+    image: &mut [u8; IMAGE_LENGTH],
+    places: &Places,
     event: Trigger,
 ) -> Result<Answer, Refusal>
-    requires { AcceptedPlaces image.old (list_of all) places.now }
-    ensures { outcome result image.new ≡ trigger_of image.old (list_of all) event }
+    ensures { outcome result image.new ≡ trigger_of image.old (list_of places.now.all) event }
 {
     match event {
         Trigger::Pin { pin, direction } => pin_edge(image, pin, direction),
         Trigger::Watchdog => Ok(watchdog(image)),
         Trigger::Nmi { direction } => nmi_edge(image, direction),
-        Trigger::Request { record } => channel_request(image, all, places, record),
+        Trigger::Request { record } => channel_request(image, places, record),
         Trigger::Unknown => Err(Refusal::Kind),
     }
 }
 
 // Whether the top level is in service: any mark but 0.
-pub fn in_service(image: &[u8]) -> bool
-    requires { length image.now ≡ image_length }
+pub fn in_service(image: &[u8; IMAGE_LENGTH]) -> bool
     ensures { result ≡ in_service image.now }
 {
     image[MARK] != 0
 }
 
 // Whether the top level is served: TLIP set and (TLNM, or TLI and IEN).
-fn top_level(image: &[u8]) -> bool
-    requires { length image.now ≡ image_length }
+#[tactic(auto, unfolding(rules::specs::Arbitration::top_level))]
+fn top_level(image: &[u8; IMAGE_LENGTH]) -> bool
     ensures { result ≡ top_level image.now }
 {
     let cicr = image[CICR];
@@ -64,8 +63,8 @@ fn top_level(image: &[u8]) -> bool
 }
 
 // Clears TLIP and sets the mark; IEN, CPL and NICR stay.
-fn enter_top(image: &mut [u8])
-    requires { length image.old ≡ image_length }
+#[tactic(auto, unfolding(rules::specs::Arbitration::entered_top))]
+fn enter_top(image: &mut [u8; IMAGE_LENGTH])
     ensures { image.new ≡ entered_top image.old }
 {
     put_at(image, CICR, TLIP, false);
@@ -73,14 +72,13 @@ fn enter_top(image: &mut [u8])
 }
 
 // An arbitration: nothing while the mark is set; the top level; then what the winner gets.
+#[tactic(auto, unfolding(rules::specs::Arbitration::arbitrate_of, rules::specs::Arbitration::granted))]
 pub fn arbitrate(
-    image: &mut [u8],
+    image: &mut [u8; IMAGE_LENGTH],
     memory: &mut [u8],
-    all: Channels,
-    places: &[u16; PLACES],
+    places: &Places,
 ) -> Result<Answer, Refusal>
-    requires { AcceptedPlaces image.old (list_of all) places.now }
-    ensures { outcome result (state image.new memory.new) ≡ arbitrate_of (state image.old memory.old) (list_of all) }
+    ensures { outcome result (state image.new memory.new) ≡ arbitrate_of (state image.old memory.old) (list_of places.now.all) }
 {
     if in_service(image) {
         return Ok(Answer::Nothing);
@@ -89,16 +87,18 @@ pub fn arbitrate(
         enter_top(image);
         return Ok(Answer::TopLevel);
     }
-    match winner_of(image, all, places) {
-        Winner::Nobody => Ok(Answer::Nothing),
-        Winner::Dma { source } => transfer(image, memory, all, places, source),
-        Winner::Interrupt { source, level } => Ok(acknowledge(image, all, places, source, level)),
+    match winner_of(image, places) {
+        None => Ok(Answer::Nothing),
+        Some(Winner::Dma { source }) => transfer(image, memory, places, source),
+        Some(Winner::Interrupt { source, level }) => {
+            Ok(acknowledge(image, places, source, level))
+        }
     }
 }
 
 // The return: clears the mark where it is set; else sets IEN and, in nested mode, restores the level.
-pub fn return_from_interrupt(image: &mut [u8]) -> Answer
-    requires { length image.old ≡ image_length }
+#[tactic(auto, unfolding(rules::specs::Return::return_of, rules::specs::Return::returned))]
+pub fn return_from_interrupt(image: &mut [u8; IMAGE_LENGTH]) -> Answer
     ensures { outcome (Ok result) image.new ≡ return_of image.old }
 {
     if in_service(image) {

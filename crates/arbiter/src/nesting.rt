@@ -1,16 +1,15 @@
 // The levels of nested mode: pushed at an acknowledgement, popped at a return.
-ghost use Rattle.std.specs.Prelude.{◌≡◌, ◌<◌, length};
-ghost use Rattle.rules.specs.Image.{image_length};
+ghost use Rattle.std.specs.Prelude.{◌≡◌, ◌<◌};
 ghost use Rattle.rules.specs.Arbitration.{pushed, acknowledged_levels};
 ghost use Rattle.rules.specs.Return.{restored_level, popped, returned_levels};
 
 use bits::has_bit;
 use fields::{put_at, put_cpl};
-use rules::{CICR, IAM, NICR};
+use rules::{CICR, IAM, IMAGE_LENGTH, NICR};
 
 // Sets HLx for x = CPL, if that is at most 6.
-fn push(image: &mut [u8])
-    requires { length image.old ≡ image_length }
+#[tactic(auto, unfolding(rules::specs::Arbitration::pushed))]
+fn push(image: &mut [u8; IMAGE_LENGTH])
     ensures { image.new ≡ pushed image.old }
 {
     let cpl = image[CICR] % 8;
@@ -20,8 +19,9 @@ fn push(image: &mut [u8])
 }
 
 // In nested mode pushes the current level; the level becomes the current one.
-pub(crate) fn nest(image: &mut [u8], level: u8)
-    requires { (length image.old ≡ image_length) × (level < 8) }
+#[tactic(auto, unfolding(rules::specs::Arbitration::nested))]
+pub(crate) fn nest(image: &mut [u8; IMAGE_LENGTH], level: u8)
+    requires { level < 8 }
     ensures { image.new ≡ acknowledged_levels image.old level }
 {
     if !has_bit(image[CICR], IAM) {
@@ -32,17 +32,17 @@ pub(crate) fn nest(image: &mut [u8], level: u8)
 }
 
 // The smallest x whose HLx is set, 7 with none: the trailing zeros of NICR's low seven bits, with a 1 in the place of TLNM above them.
-fn restored_level(image: &[u8]) -> u8
-    requires { length image.now ≡ image_length }
+fn restored_level(image: &[u8; IMAGE_LENGTH]) -> u8
     ensures { result ≡ restored_level image.now }
 {
     let levels = (image[NICR] & 0x7F) | 0x80;
-    u32::trailing_zeros(levels as u32) as u8
+    u32::from(levels).trailing_zeros() as u8
 }
 
 // Clears HLx of the level that is restored; none at 7.
-fn pop(image: &mut [u8], level: u8)
-    requires { (length image.old ≡ image_length) × (level ≡ restored_level image.old) }
+#[tactic(auto, unfolding(rules::specs::Return::popped))]
+fn pop(image: &mut [u8; IMAGE_LENGTH], level: u8)
+    requires { level ≡ restored_level image.old }
     ensures { image.new ≡ popped image.old }
 {
     if level < 7 {
@@ -51,8 +51,8 @@ fn pop(image: &mut [u8], level: u8)
 }
 
 // In nested mode pops the restored level, which becomes the current one.
-pub(crate) fn unnest(image: &mut [u8])
-    requires { length image.old ≡ image_length }
+#[tactic(auto, unfolding(rules::specs::Return::unnested))]
+pub(crate) fn unnest(image: &mut [u8; IMAGE_LENGTH])
     ensures { image.new ≡ returned_levels image.old }
 {
     if !has_bit(image[CICR], IAM) {

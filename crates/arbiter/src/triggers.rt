@@ -1,21 +1,23 @@
 // What each kind of trigger selects, sets and answers.
-ghost use Rattle.std.specs.Prelude.{◌≡◌, ◌<◌, length};
+#![tactic(auto, unfolding(rules::specs::Triggers::trigger_of, rules::specs::Triggers::trigger_verdict, rules::specs::Triggers::fired, rules::specs::Triggers::selects, rules::specs::Triggers::selects_top, rules::specs::Triggers::source_effect, rules::specs::Triggers::raise_source, rules::specs::Triggers::top_effect, rules::specs::Triggers::raise_top, rules::specs::Sources::pending, rules::specs::Sources::pending_bit), using(crate::proofs::RaisingLaws::top_stays))]
+
+ghost use Rattle.std.specs.Prelude.{◌≡◌, ◌<◌};
 ghost use Rattle.rules.specs.Image.{image_length, bit_of};
 ghost use Rattle.rules.specs.Channels.{list_of};
 ghost use Rattle.rules.specs.Triggers.{edge};
-ghost use Rattle.channels.specs.Laid.{AcceptedPlaces};
 ghost use Rattle.arbiter.specs.Raised.{Raises, Fires, FiresIn};
 
 use bits::has_bit;
-use channels::{COUNT, PLACES};
+use channels::Places;
 use fields::put_at;
 use rules::{
-    Answer, CICR, Channels, EIPR, EITR, EIVR, Effect, IAOS, IP, Refusal, TLIP, TLIS, TLTEV, Trigger,
+    Answer, CICR, EIPR, EITR, EIVR, Effect, IAOS, IMAGE_LENGTH, IP, Refusal, TLIP, TLIS, TLTEV,
+    Trigger,
 };
 
 // Sets bit k of a byte where it is selected, and answers what that did.
-fn raise(image: &mut [u8], at: usize, k: u8, selected: bool) -> Effect
-    requires { (at < length image.old) × (k < 8) }
+fn raise(image: &mut [u8; IMAGE_LENGTH], at: usize, k: u8, selected: bool) -> Effect
+    requires { (at < image_length) × (k < 8) }
     ensures { Raises image.old (bit_of at k) selected result image.new }
 {
     if !selected {
@@ -40,8 +42,11 @@ fn edge_matches(direction: u8, rising: bool) -> bool
 }
 
 // A pin edge. Pin 0 counts only with IAOS = 1.
-pub(crate) fn pin_edge(image: &mut [u8], pin: u32, direction: u8) -> Result<Answer, Refusal>
-    requires { length image.old ≡ image_length }
+pub(crate) fn pin_edge(
+    image: &mut [u8; IMAGE_LENGTH],
+    pin: u32,
+    direction: u8,
+) -> Result<Answer, Refusal>
     ensures { Fires image.old (Trigger.Pin pin direction) result image.new }
 {
     if (7 < pin) | (1 < direction) {
@@ -55,8 +60,7 @@ pub(crate) fn pin_edge(image: &mut [u8], pin: u32, direction: u8) -> Result<Answ
 }
 
 // The watchdog's end of count: EIPR bit 0 with IAOS = 0, and TLIP with TLIS = 0.
-pub(crate) fn watchdog(image: &mut [u8]) -> Answer
-    requires { length image.old ≡ image_length }
+pub(crate) fn watchdog(image: &mut [u8; IMAGE_LENGTH]) -> Answer
     ensures { Fires image.old Trigger.Watchdog (Ok result) image.new }
 {
     let eivr = image[EIVR];
@@ -66,8 +70,7 @@ pub(crate) fn watchdog(image: &mut [u8]) -> Answer
 }
 
 // An NMI edge: TLIP with TLIS = 1, where the direction matches TLTEV.
-pub(crate) fn nmi_edge(image: &mut [u8], direction: u8) -> Result<Answer, Refusal>
-    requires { length image.old ≡ image_length }
+pub(crate) fn nmi_edge(image: &mut [u8; IMAGE_LENGTH], direction: u8) -> Result<Answer, Refusal>
     ensures { Fires image.old (Trigger.Nmi direction) result image.new }
 {
     if 1 < direction {
@@ -81,19 +84,16 @@ pub(crate) fn nmi_edge(image: &mut [u8], direction: u8) -> Result<Answer, Refusa
 
 // A channel request: IP of the record.
 pub(crate) fn channel_request(
-    image: &mut [u8],
-    all: Channels,
-    places: &[u16; PLACES],
+    image: &mut [u8; IMAGE_LENGTH],
+    places: &Places,
     number: u32,
 ) -> Result<Answer, Refusal>
-    requires { AcceptedPlaces image.old (list_of all) places.now }
-    ensures { FiresIn image.old (list_of all) (Trigger.Request number) result image.new }
+    ensures { FiresIn image.old (list_of places.now.all) (Trigger.Request number) result image.new }
 {
     let k = number as usize;
-    if (places[COUNT] as usize) <= k {
+    if places.count() <= k {
         return Err(Refusal::Number);
     }
-    let at = places[k] as usize;
-    let effect = raise(image, at, IP, true);
+    let effect = raise(image, places.idcr(k), IP, true);
     Ok(Answer::Triggered(effect, Effect::NotSelected))
 }

@@ -1,9 +1,8 @@
 pub mod RestLaws
 pub mod ItemLaws
-pub mod RegisterLaws
 pub mod HighLaws
 pub mod SpotLaws
 pub mod RowLaws
 pub mod MetLaws
-pub mod ColumnLaws
+pub mod FilledLaws
 pub mod LaidLaws

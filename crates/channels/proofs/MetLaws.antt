@@ -78,9 +78,6 @@ module _ (all : Channels) (full : length all.items ≡ most_records) (short : al
           let w = record_in_range (item_at all k) ok in
           rw same (held-row k masks (met all k) checked.held (item_at all k).page w.page_low w.page_high (omega arith) row opened)
 
-      pub row_low : row ≤ 240
-      row_low = ready.3
-
       first : unseen t row (registers_of (item_at all k)) ≡ distinct (bytes (met all (k + 1)))
       first =
           let s = ready in

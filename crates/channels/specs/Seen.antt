@@ -1,8 +1,7 @@
--- Names for the private functions of the check of a list: the row of a page, the registers that it has seen, and what it lays down of a record.
+-- Names for the private functions of the check of a list: the row of a page, and the registers that it has seen.
 -- Assumes nothing.
-use Rattle.std.specs.Prelude.{◌≡◌, Bool, true, cond, ◌&&◌, List, [], ◌∷◌, ℕ, suc, ◌+◌, ◌-◌, ◌*◌, eqb, get_or, set}
+use Rattle.std.specs.Prelude.{◌≡◌, Bool, true, cond, ◌&&◌, List, [], ◌∷◌, ℕ, ◌+◌, ◌-◌, ◌*◌, eqb, get_or, set}
 use Rattle.rules.specs.declared.Channel.{Channel}
-use Rattle.rules.specs.Channels.{idcr_byte, ivr_byte, dcpr_byte, dapr_byte, data_byte}
 use Rattle.channels.specs.Laid.{bits_in}
 
 -- the row of page p: its own or, where it has none, the k-th
@@ -42,12 +41,3 @@ seeing masks row (x ∷ xs) = seeing (put_bits masks row x.place x.bits) row xs
 -- whether each of the registers is met for the first time; then their bits exist
 abbrev pub SeesAll : List ℕ → ℕ → List Spot → Bool → List ℕ → Type 0
 SeesAll before row xs first after = (first ≡ unseen before row xs) × (after ≡ seeing before row xs)
-
--- what stands of a record in the six columns
-abbrev pub columns_of : Channel → List ℕ
-columns_of c = idcr_byte c ∷ ivr_byte c ∷ dcpr_byte c ∷ dapr_byte c ∷ data_byte c ∷ c.direction ∷ []
-
--- the numbers set at entry k of the columns of twelve, from column q on
-unfoldable pub spread : List ℕ → ℕ → ℕ → List ℕ → List ℕ
-spread places k q [] = places
-spread places k q (v ∷ vs) = spread (set places (12 * q + k) v) k (suc q) vs

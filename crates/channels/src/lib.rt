@@ -1,14 +1,16 @@
-// The check of a channel list, refusal 2. It also lays the list out in two arrays of numbers, once a call, so that no step looks a record up. The list
-// itself goes along with them below: the contracts are over it.
+// The check of a channel list, refusal 2. It also lays the list out in two arrays, once a call, so that no step looks a record up.
 #![tactic(auto)]
 
 ghost use Rattle.std.specs.Prelude.{◌≡◌, true, ◌≤◌, ◌<◌, set};
 ghost use Rattle.rules.specs.Image.{page_byte};
 ghost use Rattle.rules.specs.Channels.{most_records, record_ok, list_ok, list_of};
-ghost use Rattle.channels.specs.Laid.{no_masks, no_places, Laid};
-ghost use Rattle.channels.specs.Seen.{registers_of, row_of, Sees, SeesAll, columns_of, spread};
+ghost use Rattle.channels.specs.Laid.{no_masks, no_places, bytes_of, LaidList};
+ghost use Rattle.channels.specs.Seen.{registers_of, row_of, Sees, SeesAll};
 
-use rules::{Channel, Channels, MOST_RECORDS};
+mod accepted;
+
+pub use accepted::{Laid, Masks, Places};
+use rules::{Channel, Channels, MARK, MOST_RECORDS};
 
 // The masks: where the row of each page stands, 0 for none; then twelve rows of sixteen, the bits that exist at R240 to R255 of a page. A table of all
 // the paged registers would be looked at once and not twice, but each call would have to clear it.
@@ -17,28 +19,24 @@ pub const MASKS: usize = 256;
 // The first row stands after a number for each page.
 const FIRST_ROW: u8 = 64;
 
-// The places: the bytes of the records' IDCRs and, from these on, of their IVR, DCPR, DAPR and data, and their directions, twelve each; last, how many
-// records there are. No step reads the DAPRs before request §1, DMA into memory.
-pub const PLACES: usize = 73;
-
-pub const IVRS: usize = 12;
-
-pub const DCPRS: usize = 24;
-
-pub const DAPRS: usize = 36;
-
-pub const DATAS: usize = 48;
-
-pub const DIRECTIONS: usize = 60;
-
-pub const COUNT: usize = 72;
+// The bytes of a record's registers in the image, and the direction of its transfers, all of one width (`no_places` says why).
+#[derive(Clone, Copy)]
+pub struct RecordBytes {
+    pub idcr: u16,
+    pub ivr: u16,
+    pub dcpr: u16,
+    pub dapr: u16,
+    pub data: u16,
+    pub direction: u16,
+}
 
 // The byte of a register (240 to 255) of a page.
+#[tactic(auto, unfolding(rules::specs::Image::page_byte))]
 pub fn page_byte(page: u8, register: u8) -> usize
     requires { 240 ≤ register }
     ensures { result ≡ page_byte page register }
 {
-    16 * (page as usize) + (register as usize)
+    16 * usize::from(page) + usize::from(register)
 }
 
 // Whether a record's numbers are in range. A register number is a byte, so that it is never over 255; five of them are at least 240 exactly if their
@@ -52,19 +50,27 @@ fn record_ok(c: Channel) -> bool
 }
 
 // No page has a row yet.
-pub fn no_masks() -> [u8; MASKS]
+fn no_masks() -> [u8; MASKS]
     ensures { result ≡ no_masks }
 {
     [0u8; MASKS]
 }
 
-// No record has a place yet. The mark's byte fills them, so that the twelve IDCRs can be gathered without a look at the count.
-pub fn no_places() -> [u16; PLACES]
+// No record has a place yet. The mark's byte stands for each IDCR, so that the twelve can be gathered without a look at the count; and in the other
+// entries too, since one number in all of them is filled in 16 instructions less.
+fn no_places() -> [RecordBytes; MOST_RECORDS]
     ensures { result ≡ no_places }
 {
-    let mut places = [1264u16; PLACES];
-    places[COUNT] = 0;
-    places
+    let mark = MARK as u16;
+    let blank = RecordBytes {
+        idcr: mark,
+        ivr: mark,
+        dcpr: mark,
+        dapr: mark,
+        data: mark,
+        direction: mark,
+    };
+    [blank; MOST_RECORDS]
 }
 
 // The row of a page: its own or, where it has none yet, the k-th, which is its own from now on. Rows are given out by the number of the record, so that
@@ -73,7 +79,7 @@ fn row_of(masks: &mut [u8; MASKS], page: u8, k: usize) -> u8
     requires { (page ≤ 63) × (k < most_records) }
     ensures { (result ≡ row_of masks.old page k) × (masks.new ≡ set masks.old page result) }
 {
-    let p = page as usize;
+    let p = usize::from(page);
     let row = masks[p];
     if row != 0 {
         return row;
@@ -88,7 +94,7 @@ fn see(masks: &mut [u8; MASKS], row: u8, register: u8, bits: u8) -> bool
     requires { (row ≤ 240) × (240 ≤ register) }
     ensures { Sees masks.old row register bits result masks.new }
 {
-    let i = (row as usize) + (register as usize) - 240;
+    let i = usize::from(row) + usize::from(register) - 240;
     let old = masks[i];
     masks[i] = bits;
     old == 0
@@ -107,30 +113,36 @@ fn see_record(masks: &mut [u8; MASKS], row: u8, c: Channel) -> bool
     idcr & ivr & dcpr & dapr & io
 }
 
-// The bytes of record k's registers, and its direction.
-fn lay_record(places: &mut [u16; PLACES], k: usize, c: Channel)
-    requires { (k < most_records) × (record_ok c ≡ true) }
-    ensures { places.new ≡ spread places.old k 0 (columns_of c) }
+// What stands of a record in the places.
+#[tactic(auto, unfolding(rules::specs::Image::page_byte, rules::specs::Channels::idcr_byte, rules::specs::Channels::ivr_byte, rules::specs::Channels::dcpr_byte, rules::specs::Channels::dapr_byte, rules::specs::Channels::data_byte))]
+fn bytes_of(c: Channel) -> RecordBytes
+    requires { record_ok c ≡ true }
+    ensures { result ≡ bytes_of c }
 {
-    places[k] = page_byte(c.page, c.idcr) as u16;
-    places[IVRS + k] = page_byte(c.page, c.ivr) as u16;
-    places[DCPRS + k] = page_byte(c.page, c.dcpr) as u16;
-    places[DAPRS + k] = page_byte(c.page, c.dapr) as u16;
-    places[DATAS + k] = page_byte(c.page, c.io) as u16;
-    places[DIRECTIONS + k] = c.direction as u16;
+    RecordBytes {
+        idcr: page_byte(c.page, c.idcr) as u16,
+        ivr: page_byte(c.page, c.ivr) as u16,
+        dcpr: page_byte(c.page, c.dcpr) as u16,
+        dapr: page_byte(c.page, c.dapr) as u16,
+        data: page_byte(c.page, c.io) as u16,
+        direction: u16::from(c.direction),
+    }
 }
 
 // Whether the list is within the rules: at most twelve records, each in range, and no register of theirs twice. One pass over the records, which lays
 // them out.
-pub fn list_ok(all: Channels, masks: &mut [u8; MASKS], places: &mut [u16; PLACES]) -> bool
+fn lay_list(
+    all: Channels,
+    masks: &mut [u8; MASKS],
+    places: &mut [RecordBytes; MOST_RECORDS],
+) -> bool
     requires { (masks.old ≡ no_masks) × (places.old ≡ no_places) }
-    ensures { (result ≡ list_ok (list_of all)) × (result ≡ true → Laid (list_of all) masks.new places.new) }
+    ensures { (result ≡ list_ok (list_of all)) × (result ≡ true → LaidList (list_of all) masks.new places.new all.count) }
 {
     if MOST_RECORDS < all.count {
         return false;
     }
-    let mut k: usize = 0;
-    while k < all.count {
+    for k in 0..all.count {
         let c = all.items[k];
         if !record_ok(c) {
             return false;
@@ -139,9 +151,7 @@ pub fn list_ok(all: Channels, masks: &mut [u8; MASKS], places: &mut [u16; PLACES
         if !see_record(masks, row, c) {
             return false;
         }
-        lay_record(places, k, c);
-        k += 1;
+        places[k] = bytes_of(c);
     }
-    places[COUNT] = all.count as u16;
     true
 }

@@ -8,29 +8,26 @@ ghost use Rattle.rules.specs.Channels.{list_of};
 ghost use Rattle.rules.specs.Outcomes.{state, outcome, kind_of, acknowledges};
 ghost use Rattle.rules.specs.Steps.{act_of};
 ghost use Rattle.rules.specs.Runs.{is_arbitration, one_if};
-ghost use Rattle.channels.specs.Laid.{AcceptedLaid};
 
-use channels::{MASKS, PLACES};
-use rules::{Answer, AnswerKind, Channels, Refusal, Step};
+use channels::Laid;
+use rules::{Answer, AnswerKind, IMAGE_LENGTH, Refusal, Step};
 pub use words::decode;
 
 // One step.
+#[tactic(auto, unfolding(rules::specs::Steps::act_of))]
 pub fn act(
-    image: &mut [u8],
+    image: &mut [u8; IMAGE_LENGTH],
     memory: &mut [u8],
-    all: Channels,
-    masks: &[u8; MASKS],
-    places: &[u16; PLACES],
+    laid: &Laid,
     step: Step,
 ) -> Result<Answer, Refusal>
-    requires { AcceptedLaid image.old (list_of all) masks.now places.now }
-    ensures { outcome result (state image.new memory.new) ≡ act_of (state image.old memory.old) (list_of all) step }
+    ensures { outcome result (state image.new memory.new) ≡ act_of (state image.old memory.old) (list_of laid.now.places.all) step }
 {
     match step {
-        Step::Read(register) => registers::read(image, all, masks, register),
-        Step::Write(register, value) => registers::write(image, all, masks, register, value),
-        Step::Trigger(event) => arbiter::trigger(image, all, places, event),
-        Step::Arbitrate => arbiter::arbitrate(image, memory, all, places),
+        Step::Read(register) => registers::read(image, &laid.masks, register),
+        Step::Write(register, value) => registers::write(image, &laid.masks, register, value),
+        Step::Trigger(event) => arbiter::trigger(image, &laid.places, event),
+        Step::Arbitrate => arbiter::arbitrate(image, memory, &laid.places),
         Step::Return => Ok(arbiter::return_from_interrupt(image)),
         Step::Reset => Ok(registers::reset(image)),
         Step::Unknown => Err(Refusal::Kind),

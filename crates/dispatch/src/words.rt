@@ -5,6 +5,7 @@ ghost use Rattle.rules.specs.Encodings.{trigger_by, decode_of};
 use rules::{Step, Trigger};
 
 // The trigger of a kind: 0 pin edge, 1 watchdog, 2 NMI edge, 3 channel request.
+#[tactic(auto, unfolding(rules::specs::Encodings::trigger_by))]
 fn trigger_by(kind: u64, first: u32, second: u8) -> Trigger
     ensures { result ≡ trigger_by kind first second }
 {
@@ -21,6 +22,7 @@ fn trigger_by(kind: u64, first: u32, second: u8) -> Trigger
 }
 
 // The step that a word stands for; kind 0 read, 1 write, 2 trigger, 3 arbitration, 4 return, 5 reset.
+#[tactic(auto, unfolding(rules::specs::Encodings::step_by, rules::specs::Encodings::decode_of))]
 pub fn decode(word: u64) -> Step
     ensures { result ≡ decode_of word }
 {

@@ -1,4 +1,5 @@
--- Names for the private functions of the bound over reads and writes and for its loop: what a step breaks, and the steps followed so far. Assumes nothing.
+-- Names for the private functions of the bound over reads and writes and for its loop: what a step breaks, and the steps followed so far. Assumes
+-- nothing.
 use Rattle.std.specs.Prelude.{◌≡◌, Bool, true, false, cond, not, ◌&&◌, List, ℕ, ◌+◌, eqb, ltb, Ok, Err}
 use Rattle.std.proofs.Math.Option.{Option, none, some, get_or, map}
 use Rattle.rules.specs.declared.Channel.{Channel}
@@ -87,7 +88,8 @@ broken_call x a disabled i =
 abbrev pub more : List Channel → (ℕ → Bool) → Event → ℕ
 more cs among e = one_if (triggers among e) + raised_by cs among e
 
--- the step x at this index, from the image `before` in a list from `start`: done, with what it breaks, and how many of the rivals at the start it triggers or raises
+-- the step x at this index, from the image `before` in a list from `start`: done, with what it breaks, and how many of the rivals at the start it
+-- triggers or raises
 pub record Follows (start before : Image) (cs : List Channel) (ours : ℕ) (x : Step) (index : ℕ) (f : Seen) (after : Image) : Type 0 where
   pub did : outcome f.answer (alone after) ≡ act_of (alone before) cs x
   pub breaks : f.broken ≡ broken (broken_by cs ours (event_of (alone before) x (outcome f.answer (alone after))) index)

@@ -1,28 +1,26 @@
-// The bound over lists with reads and writes, on an image and a list that are accepted, for a source that is there: the premises on the start, as demand 3
-// has them, then the steps until ours is acknowledged, followed on a copy of the image, without a memory.
+// The bound over lists with reads and writes, on an image and a list that are accepted, for a source that is there: the premises on the start, as
+// demand 3 has them, then the steps until ours is acknowledged, followed on a copy of the image, without a memory.
 #![tactic(auto)]
 
 mod changes;
 
-ghost use Rattle.std.specs.Prelude.{◌≡◌, true, ◌<◌, length};
-ghost use Rattle.rules.specs.Image.{image_length};
-ghost use Rattle.rules.specs.Channels.{list_ok, list_of};
+ghost use Rattle.std.specs.Prelude.{◌≡◌, true, ◌<◌};
+ghost use Rattle.rules.specs.Channels.{list_of};
 ghost use Rattle.rules.specs.Sources.{sources};
 ghost use Rattle.rules.specs.Handlers.{is_write};
 ghost use Rattle.rules.specs.Encodings.{decode_of};
-ghost use Rattle.channels.specs.Laid.{LaidMasks, LaidPlaces, AcceptedLaidSource};
 ghost use Rattle.handlers.specs.Handled.{may_stand, file_write, broken_call, steps_bound, words_bound, Follows};
 
 use bits::has_bit;
-use bounds::{copy_of, is_rival_trigger, start_premises, within};
+use bounds::{is_rival_trigger, start_premises, within};
 use changes::{first_changed, raised_rivals};
-use channels::{MASKS, PLACES};
+use channels::Laid;
 use dispatch::{acknowledged, decode, is_arbitration};
-use rules::{Answer, Bound, CICR, Channels, IEN, NoBound, Refusal, Step};
+use rules::{Answer, Bound, CICR, IEN, IMAGE_LENGTH, NoBound, Refusal, Step};
 use runs::perform_alone;
 
-// What a step that was followed answered, whether the premises hold of it, and how many unmasked sources outranking ours it triggered or made pending by a
-// write.
+// What a step that was followed answered, whether the premises hold of it, and how many unmasked sources outranking ours it triggered or made pending
+// by a write.
 #[derive(Clone, Copy)]
 pub struct Seen {
     pub answer: Result<Answer, Refusal>,
@@ -82,18 +80,16 @@ fn broken_call(
 
 // A write: done on the copy, and held against what was there before.
 fn follow_write(
-    start: &[u8],
-    copy: &mut [u8],
-    all: Channels,
-    masks: &[u8; MASKS],
-    places: &[u16; PLACES],
+    start: &[u8; IMAGE_LENGTH],
+    copy: &mut [u8; IMAGE_LENGTH],
+    laid: &Laid,
     at: StepAt,
 ) -> Seen
-    requires { (length start.now ≡ image_length) × (length copy.old ≡ image_length) × (list_ok (list_of all) ≡ true) × LaidMasks (list_of all) masks.now × LaidPlaces (list_of all) places.now × (at.ours < sources (list_of all)) × (is_write (decode_of at.word) ≡ true) }
-    ensures { Follows start.now copy.old (list_of all) at.ours (decode_of at.word) at.index result copy.new }
+    requires { (at.ours < sources (list_of laid.now.places.all)) × (is_write (decode_of at.word) ≡ true) }
+    ensures { Follows start.now copy.old (list_of laid.now.places.all) at.ours (decode_of at.word) at.index result copy.new }
 {
-    let before = copy_of(copy);
-    let answer = perform_alone(copy, all, masks, places, at.word);
+    let before = *copy;
+    let answer = perform_alone(copy, laid, at.word);
     if answer.is_err() {
         return Seen {
             answer,
@@ -103,26 +99,24 @@ fn follow_write(
     }
     Seen {
         answer,
-        broken: first_changed(&before, copy, all, places, at.ours, at.index),
-        more: raised_rivals(start, &before, copy, all, places, at.ours),
+        broken: first_changed(&before, copy, &laid.places, at.ours, at.index),
+        more: raised_rivals(start, &before, copy, &laid.places, at.ours),
     }
 }
 
 // A step: done on the copy, with what it breaks and triggers.
 fn follow(
-    start: &[u8],
-    copy: &mut [u8],
-    all: Channels,
-    masks: &[u8; MASKS],
-    places: &[u16; PLACES],
+    start: &[u8; IMAGE_LENGTH],
+    copy: &mut [u8; IMAGE_LENGTH],
+    laid: &Laid,
     at: StepAt,
 ) -> Seen
-    requires { (length start.now ≡ image_length) × (length copy.old ≡ image_length) × (list_ok (list_of all) ≡ true) × LaidMasks (list_of all) masks.now × LaidPlaces (list_of all) places.now × (at.ours < sources (list_of all)) }
-    ensures { Follows start.now copy.old (list_of all) at.ours (decode_of at.word) at.index result copy.new }
+    requires { at.ours < sources (list_of laid.now.places.all) }
+    ensures { Follows start.now copy.old (list_of laid.now.places.all) at.ours (decode_of at.word) at.index result copy.new }
 {
     let step = decode(at.word);
     if is_file_write(step) {
-        let answer = perform_alone(copy, all, masks, places, at.word);
+        let answer = perform_alone(copy, laid, at.word);
         return Seen {
             answer,
             broken: Ok(()),
@@ -130,12 +124,12 @@ fn follow(
         };
     }
     if is_write(step) {
-        return follow_write(start, copy, all, masks, places, at);
+        return follow_write(start, copy, laid, at);
     }
     let disabled = is_arbitration(step) & !has_bit(copy[CICR], IEN);
-    let answer = perform_alone(copy, all, masks, places, at.word);
+    let answer = perform_alone(copy, laid, at.word);
     let broken = broken_call(step, answer, disabled, at.index);
-    let more = usize::from(is_rival_trigger(start, all, places, at.ours, step, answer));
+    let more = usize::from(is_rival_trigger(start, &laid.places, at.ours, step, answer));
     Seen {
         answer,
         broken,
@@ -144,46 +138,43 @@ fn follow(
 }
 
 // The premises on the steps until ours is acknowledged, and the bound where they hold.
+#[tactic(auto, using(crate::proofs::FollowLaws::follows_few))]
 fn followed(
-    image: &[u8],
-    all: Channels,
-    masks: &[u8; MASKS],
-    places: &[u16; PLACES],
+    image: &[u8; IMAGE_LENGTH],
+    laid: &Laid,
     source: u32,
     words: &[u64],
 ) -> Result<Bound, NoBound>
-    requires { AcceptedLaidSource image.now (list_of all) masks.now places.now source }
-    ensures { result ≡ steps_bound image.now (list_of all) source words.now }
+    requires { source < sources (list_of laid.now.places.all) }
+    ensures { result ≡ steps_bound image.now (list_of laid.now.places.all) source words.now }
 {
     let ours = source as usize;
-    let mut copy = copy_of(image);
+    let mut copy = *image;
     let mut triggers: usize = 0;
     for (index, &word) in words.iter().enumerate() {
         let at = StepAt { ours, word, index };
-        let seen = follow(image, &mut copy, all, masks, places, at);
+        let seen = follow(image, &mut copy, laid, at);
         seen.broken?;
         triggers += seen.more;
         if let Ok(a) = seen.answer {
             if acknowledged(a, source) {
-                return Ok(within(image, all, places, ours, triggers));
+                return Ok(within(image, &laid.places, ours, triggers));
             }
         }
     }
-    Ok(within(image, all, places, ours, triggers))
+    Ok(within(image, &laid.places, ours, triggers))
 }
 
 // The premises on the start, then those on the steps.
 pub fn handler_bound_accepted(
-    image: &[u8],
-    all: Channels,
-    masks: &[u8; MASKS],
-    places: &[u16; PLACES],
+    image: &[u8; IMAGE_LENGTH],
+    laid: &Laid,
     source: u32,
     words: &[u64],
 ) -> Result<Bound, NoBound>
-    requires { AcceptedLaidSource image.now (list_of all) masks.now places.now source }
-    ensures { result ≡ words_bound image.now (list_of all) source words.now }
+    requires { source < sources (list_of laid.now.places.all) }
+    ensures { result ≡ words_bound image.now (list_of laid.now.places.all) source words.now }
 {
-    start_premises(image, all, places, source)?;
-    followed(image, all, masks, places, source, words)
+    start_premises(image, &laid.places, source)?;
+    followed(image, laid, source, words)
 }

@@ -25,7 +25,6 @@ use Rattle.rules.specs.Encodings.{steps_of, told, told_run, told_wait, told_boun
 use Rattle.rules.specs.Promises.{Does, Runs, Waits, Bounds, HandlerBounds}
 use Rattle.rules.proofs.Refusals.{lent_sound}
 use Rattle.rules.proofs.WaitLaws.{accepted-lent, accepted-source}
-use Rattle.channels.specs.Laid.{Laid, LentLaid, LentLaidSource}
 use Rattle.runs.proofs.RunSteps.{promised}
 
 -- what is led to by the verdict v is led to by an equal one
@@ -41,20 +40,6 @@ pub lent-by_memory : (s : State) (cs : List Channel) → length s.image ≡ imag
     → lent_verdict s cs ≡ refused_unless (leb (length s.memory) most_memory) refusal.Memory accepted
 unfolding lent_verdict
 lent-by_memory s cs h l = rw (eq-eqb (length s.image) image_length h, l)
-
--- what is lent is accepted and laid out, where the verdict says so
-module _ (s : State) (cs : List Channel) (masks places : List ℕ) {v : Verdict} (e : v ≡ accepted) where
-  pub lent_laid : (v ≡ lent_verdict s cs) × (v ≡ accepted → Laid cs masks places) → LentLaid s cs masks places
-  lent_laid (d, laid) =
-      let l = lent_sound _ _ (sym d ∙ e) in
-      (l.0, l.1, (laid e).0, (laid e).1, l.2)
-
-  -- and the source is there
-  pub source_laid : (source : ℕ) → (v ≡ wait_verdict s cs source) × (v ≡ accepted → Laid cs masks places) → LentLaidSource s cs masks places source
-  source_laid source (d, laid) =
-      let w = sym d ∙ e in
-      let l = lent_sound _ _ (accepted-lent _ _ _ w) in
-      (l.0, l.1, (laid e).0, (laid e).1, l.2, accepted-source _ _ _ w)
 
 module _ (s t : State) (cs : List Channel) (v : Verdict) where
   -- a step that answers and leaves what the definition says by its verdict keeps the promise

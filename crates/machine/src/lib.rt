@@ -2,24 +2,26 @@
 // Any image, any list, any memory and any step gets an answer.
 #![tactic(auto)]
 
-ghost use Rattle.std.specs.Prelude.{◌≡◌, leb, length};
+ghost use Rattle.std.specs.Prelude.{◌≡◌, leb, ltb, length};
 ghost use Rattle.rules.specs.Channels.{list_of};
 ghost use Rattle.rules.specs.Image.{most_memory};
 ghost use Rattle.rules.specs.Outcomes.{state, alone, accepted, refused_unless};
-ghost use Rattle.rules.specs.Steps.{lent_verdict};
-ghost use Rattle.rules.specs.Runs.{wait_verdict};
-ghost use Rattle.channels.specs.Laid.{no_masks, no_places, Laid};
+ghost use Rattle.rules.specs.Sources.{sources};
 ghost use Rattle.rules.specs.Promises.{Does, Reads, Writes, Triggers, Arbitrates, Returns, Resets, DoesWord, Runs, Waits, Bounds, HandlerBounds};
 
 use bounds::bound_accepted;
-use channels::{MASKS, PLACES, list_ok, no_masks, no_places};
+use channels::{Laid, Places};
 use dispatch::act;
 use handlers::handler_bound_accepted;
 use rules::{
-    Answer, Bound, Channels, EXTERNALS, IMAGE_LENGTH, MOST_MEMORY, NoBound, Refusal, Run,
-    RunRefusal, Step, Trigger, WaitEnd, WaitRefusal,
+    Answer, Bound, Channels, MOST_MEMORY, NoBound, Refusal, Run, RunRefusal, Step, Trigger,
+    WaitEnd, WaitRefusal,
 };
 use runs::{run_accepted, wait_accepted};
+use sources::source_count;
+
+// An image of another length is refused with 1.
+const OTHER_LENGTH: Refusal = Refusal::Length;
 
 // A memory is refused with 8 where it is over 65,536 bytes.
 fn memory_verdict(memory: &[u8]) -> Result<(), Refusal>
@@ -31,28 +33,14 @@ fn memory_verdict(memory: &[u8]) -> Result<(), Refusal>
     Ok(())
 }
 
-// What is lent: refused with 1, then with 2, then with 8. A list that is accepted is laid out; one of no records is so from the start, and
-// `list_ok` would copy it.
-fn lent_verdict(
-    image: &[u8],
-    all: Channels,
-    memory: &[u8],
-    masks: &mut [u8; MASKS],
-    places: &mut [u16; PLACES],
-) -> Result<(), Refusal>
-    requires { (masks.old ≡ no_masks) × (places.old ≡ no_places) }
-    ensures { (result ≡ lent_verdict (state image.now memory.now) (list_of all)) × (result ≡ accepted → Laid (list_of all) masks.new places.new) }
+// A source that is not there is refused with 4.
+fn source_verdict(places: &Places, source: u32) -> Result<(), Refusal>
+    ensures { result ≡ refused_unless (ltb source (sources (list_of places.now.all))) Refusal.Number accepted }
 {
-    if image.len() != IMAGE_LENGTH {
-        return Err(Refusal::Length);
+    if (source as usize) < source_count(places) {
+        return Ok(());
     }
-    if all.count == 0 {
-        return memory_verdict(memory);
-    }
-    if list_ok(all, masks, places) {
-        return memory_verdict(memory);
-    }
-    Err(Refusal::List)
+    Err(Refusal::Number)
 }
 
 // One step: refusals 1, 2 and 8, then the step's own.
@@ -64,10 +52,11 @@ fn one_step(
 ) -> Result<Answer, Refusal>
     ensures { Does (state image.old memory.old) (list_of all) step result (state image.new memory.new) }
 {
-    let mut masks = no_masks();
-    let mut places = no_places();
-    lent_verdict(image, all, memory, &mut masks, &mut places)?;
-    act(image, memory, all, &masks, &places, step)
+    let image = image.as_mut_array().ok_or(OTHER_LENGTH)?;
+    let mut laid = Laid::empty();
+    laid.lay(all)?;
+    memory_verdict(memory)?;
+    act(image, memory, &laid, step)
 }
 
 // A step without a memory.
@@ -82,11 +71,10 @@ fn step_alone(image: &mut [u8], all: Channels, step: Step) -> Result<Answer, Ref
 pub fn read(image: &[u8], all: Channels, register: u32) -> Result<Answer, Refusal>
     ensures { Reads image.now (list_of all) register result }
 {
-    let mut masks = no_masks();
-    let mut places = no_places();
-    let none: [u8; 0] = [];
-    lent_verdict(image, all, &none, &mut masks, &mut places)?;
-    registers::read(image, all, &masks, register)
+    let image = image.as_array().ok_or(OTHER_LENGTH)?;
+    let mut laid = Laid::empty();
+    laid.lay(all)?;
+    registers::read(image, &laid.masks, register)
 }
 
 // Writes a register.
@@ -133,10 +121,11 @@ pub fn perform(
 ) -> Result<Answer, Refusal>
     ensures { DoesWord (state image.old memory.old) (list_of all) word result (state image.new memory.new) }
 {
-    let mut masks = no_masks();
-    let mut places = no_places();
-    lent_verdict(image, all, memory, &mut masks, &mut places)?;
-    runs::perform(image, memory, all, &masks, &places, word)
+    let image = image.as_mut_array().ok_or(OTHER_LENGTH)?;
+    let mut laid = Laid::empty();
+    laid.lay(all)?;
+    memory_verdict(memory)?;
+    runs::perform(image, memory, &laid, word)
 }
 
 // A run: what is lent is checked once, then the steps are done one after another up to the first refused.
@@ -148,29 +137,11 @@ pub fn run(
 ) -> Result<Run, RunRefusal>
     ensures { Runs (state image.old memory.old) (list_of all) words.now result (state image.new memory.new) }
 {
-    let mut masks = no_masks();
-    let mut places = no_places();
-    lent_verdict(image, all, memory, &mut masks, &mut places)?;
-    run_accepted(image, memory, all, &masks, &places, words)
-}
-
-// What a wait report is refused with before any step: 1, 2, 8, then 4 where there is no such source.
-fn wait_verdict(
-    image: &[u8],
-    all: Channels,
-    memory: &[u8],
-    masks: &mut [u8; MASKS],
-    places: &mut [u16; PLACES],
-    source: u32,
-) -> Result<(), Refusal>
-    requires { (masks.old ≡ no_masks) × (places.old ≡ no_places) }
-    ensures { (result ≡ wait_verdict (state image.now memory.now) (list_of all) source) × (result ≡ accepted → Laid (list_of all) masks.new places.new) }
-{
-    lent_verdict(image, all, memory, masks, places)?;
-    if (source as usize) < EXTERNALS + all.count {
-        return Ok(());
-    }
-    Err(Refusal::Number)
+    let image = image.as_mut_array().ok_or(OTHER_LENGTH)?;
+    let mut laid = Laid::empty();
+    laid.lay(all)?;
+    memory_verdict(memory)?;
+    run_accepted(image, memory, &laid, words)
 }
 
 // The wait report: a run up to the acknowledgement of a source, with its arbitrations counted.
@@ -183,21 +154,23 @@ pub fn wait(
 ) -> Result<WaitEnd, WaitRefusal>
     ensures { Waits (state image.old memory.old) (list_of all) source words.now result (state image.new memory.new) }
 {
-    let mut masks = no_masks();
-    let mut places = no_places();
-    wait_verdict(image, all, memory, &mut masks, &mut places, source)?;
-    wait_accepted(image, memory, all, &masks, &places, source, words)
+    let image = image.as_mut_array().ok_or(OTHER_LENGTH)?;
+    let mut laid = Laid::empty();
+    laid.lay(all)?;
+    memory_verdict(memory)?;
+    source_verdict(&laid.places, source)?;
+    wait_accepted(image, memory, &laid, source, words)
 }
 
 // Demand 3's bound for a source over a list of steps: H, E and H + E + 1 where the premises hold, else the first that fails. The image and the steps are only read.
 pub fn bound(image: &[u8], all: Channels, source: u32, words: &[u64]) -> Result<Bound, NoBound>
     ensures { Bounds image.now (list_of all) source words.now result }
 {
-    let mut masks = no_masks();
-    let mut places = no_places();
-    let none: [u8; 0] = [];
-    wait_verdict(image, all, &none, &mut masks, &mut places, source)?;
-    bound_accepted(image, all, &masks, &places, source, words)
+    let image = image.as_array().ok_or(OTHER_LENGTH)?;
+    let mut laid = Laid::empty();
+    laid.lay(all)?;
+    source_verdict(&laid.places, source)?;
+    bound_accepted(image, &laid, source, words)
 }
 
 // The bound over lists with reads and writes, likewise; of a write that changed what the bound rests on, what it changed.
@@ -209,9 +182,9 @@ pub fn handler_bound(
 ) -> Result<Bound, NoBound>
     ensures { HandlerBounds image.now (list_of all) source words.now result }
 {
-    let mut masks = no_masks();
-    let mut places = no_places();
-    let none: [u8; 0] = [];
-    wait_verdict(image, all, &none, &mut masks, &mut places, source)?;
-    handler_bound_accepted(image, all, &masks, &places, source, words)
+    let image = image.as_array().ok_or(OTHER_LENGTH)?;
+    let mut laid = Laid::empty();
+    laid.lay(all)?;
+    source_verdict(&laid.places, source)?;
+    handler_bound_accepted(image, &laid, source, words)
 }

@@ -3,31 +3,24 @@
 
 mod table;
 
-ghost use Rattle.std.specs.Prelude.{◌≡◌, cond, ◌≤◌, eqb, length};
-ghost use Rattle.rules.specs.Image.{image_length, page_byte};
+ghost use Rattle.std.specs.Prelude.{◌≡◌, cond, ◌≤◌, eqb};
+ghost use Rattle.rules.specs.Image.{page_byte};
 ghost use Rattle.rules.specs.Channels.{list_of};
 ghost use Rattle.rules.specs.Outcomes.{outcome};
 ghost use Rattle.rules.specs.Registers.{page_zero, place_of, read_of, stored_byte, lost_bits, write_of, reset_of, view_verdict};
 ghost use Rattle.rules.specs.Promises.{Views};
-ghost use Rattle.channels.specs.Laid.{bits_in, place_by, AcceptedMasks};
+ghost use Rattle.channels.specs.Laid.{bits_in, place_by};
 
-use channels::{MASKS, page_byte};
-use rules::{
-    Answer, Channels, EIPR, IMAGE_LENGTH, Losses, MARK, NICR, PPR, Place, ROW_COUNT, Refusal,
-};
+use channels::{Masks, page_byte};
+use rules::{Answer, EIPR, IMAGE_LENGTH, Losses, MARK, NICR, PPR, Place, ROW_COUNT, Refusal};
 use table::{existing_bits, reset_bytes, reset_masks, row_place};
 
 // Where a register of page 0 goes.
+#[tactic(auto, unfolding(rules::specs::Registers::page_zero))]
 fn page_zero(register: u8) -> Option<Place>
     ensures { result ≡ page_zero register }
 {
-    if register < 242 {
-        return None;
-    }
-    if 247 < register {
-        return None;
-    }
-    Some(Place {
+    (242..=247).contains(&register).then(|| Place {
         byte: page_byte(0, register),
         existing: existing_bits(register as usize),
     })
@@ -44,59 +37,53 @@ fn place_without_row(page: u8, register: u8) -> Option<Place>
 }
 
 // Where it goes of a page that has one: to its byte, if bits exist there.
-fn place_in_row(masks: &[u8; MASKS], row: u8, page: u8, register: u8) -> Option<Place>
+fn place_in_row(masks: &Masks, row: u8, page: u8, register: u8) -> Option<Place>
     requires { (row ≤ 240) × (240 ≤ register) }
-    ensures { result ≡ place_by (page_byte page register) (bits_in masks.now row register) }
+    ensures { result ≡ place_by (page_byte page register) (bits_in masks.now.rows row register) }
 {
-    let existing = masks[(row as usize) + (register as usize) - 240];
-    if existing == 0 {
-        return None;
-    }
-    Some(Place {
+    let existing = masks.rows[(row as usize) + (register as usize) - 240];
+    (existing != 0).then(|| Place {
         byte: page_byte(page, register),
         existing,
     })
 }
 
 // Where a register number goes, with the page that PPR selects.
-fn place_of(image: &[u8], all: Channels, masks: &[u8; MASKS], register: u32) -> Option<Place>
-    requires { AcceptedMasks image.now (list_of all) masks.now }
-    ensures { result ≡ place_of image.now (list_of all) register }
+#[tactic(auto, unfolding(rules::specs::Registers::place_of))]
+fn place_of(image: &[u8; IMAGE_LENGTH], masks: &Masks, register: u32) -> Option<Place>
+    ensures { result ≡ place_of image.now (list_of masks.now.all) register }
 {
-    if register < 240 {
-        let byte = register as usize;
-        return Some(Place {
-            byte,
-            existing: existing_bits(byte),
-        });
+    match register {
+        0..=239 => {
+            let byte = register as usize;
+            Some(Place {
+                byte,
+                existing: existing_bits(byte),
+            })
+        }
+        240..=255 => {
+            let r = register as u8;
+            let page = image[PPR] / 4;
+            match masks.rows[page as usize] {
+                0 => place_without_row(page, r),
+                row => place_in_row(masks, row, page, r),
+            }
+        }
+        _ => None,
     }
-    if 255 < register {
-        return None;
-    }
-    let r = register as u8;
-    let page = image[PPR] / 4;
-    let row = masks[page as usize];
-    if row == 0 {
-        return place_without_row(page, r);
-    }
-    place_in_row(masks, row, page, r)
 }
 
 // Reads a register: the stored byte with absent bits as 0.
-pub fn read(
-    image: &[u8],
-    all: Channels,
-    masks: &[u8; MASKS],
-    register: u32,
-) -> Result<Answer, Refusal>
-    requires { AcceptedMasks image.now (list_of all) masks.now }
-    ensures { result ≡ read_of image.now (list_of all) register }
+#[tactic(auto, using(crate::proofs::Bounds::place_in_image), unfolding(rules::specs::Registers::read_of))]
+pub fn read(image: &[u8; IMAGE_LENGTH], masks: &Masks, register: u32) -> Result<Answer, Refusal>
+    ensures { result ≡ read_of image.now (list_of masks.now.all) register }
 {
-    let place = place_of(image, all, masks, register).ok_or(Refusal::Register)?;
+    let place = place_of(image, masks, register).ok_or(Refusal::Register)?;
     Ok(Answer::Byte(image[place.byte] & place.existing))
 }
 
 // The byte that a write of `value` over `old` stores: the existing bits and 0 in the absent ones; TLNM can be set and not cleared.
+#[tactic(auto, unfolding(rules::specs::Registers::stored_byte))]
 fn stored_byte(i: usize, existing: u8, old: u8, value: u8) -> u8
     ensures { result ≡ stored_byte i existing old value }
 {
@@ -107,6 +94,7 @@ fn stored_byte(i: usize, existing: u8, old: u8, value: u8) -> u8
 }
 
 // The EIPR bits that a write takes from 1 to 0.
+#[tactic(auto, unfolding(rules::specs::Registers::lost_bits))]
 fn lost_bits(i: usize, old: u8, new: u8) -> u8
     ensures { result ≡ lost_bits i old new }
 {
@@ -117,17 +105,16 @@ fn lost_bits(i: usize, old: u8, new: u8) -> u8
 }
 
 // Writes a register, and answers the pending bits that were lost.
+#[tactic(auto, using(crate::proofs::Bounds::place_in_image), unfolding(rules::specs::Registers::write_of, rules::specs::Registers::write_at))]
 pub fn write(
-    image: &mut [u8],
-    all: Channels,
-    masks: &[u8; MASKS],
+    image: &mut [u8; IMAGE_LENGTH],
+    masks: &Masks,
     register: u32,
     value: u8,
 ) -> Result<Answer, Refusal>
-    requires { AcceptedMasks image.old (list_of all) masks.now }
-    ensures { outcome result image.new ≡ write_of image.old (list_of all) register value }
+    ensures { outcome result image.new ≡ write_of image.old (list_of masks.now.all) register value }
 {
-    let place = place_of(image, all, masks, register).ok_or(Refusal::Register)?;
+    let place = place_of(image, masks, register).ok_or(Refusal::Register)?;
     let old = image[place.byte];
     let new = stored_byte(place.byte, place.existing, old, value);
     image[place.byte] = new;
@@ -137,15 +124,15 @@ pub fn write(
 }
 
 // Resets the registers of the table, and clears the mark.
-pub fn reset(image: &mut [u8]) -> Answer
-    requires { length image.old ≡ image_length }
+#[tactic(auto, unfolding(rules::specs::Registers::reset_rows))]
+pub fn reset(image: &mut [u8; IMAGE_LENGTH]) -> Answer
     ensures { outcome (Ok result) image.new ≡ reset_of image.old }
 {
     let masks = reset_masks();
     let bytes = reset_bytes();
-    for k in 0..ROW_COUNT {
-        let i = row_place(k);
-        image[i] = (image[i] & !masks[k]) | bytes[k];
+    for (k, (mask, value)) in masks.iter().zip(&bytes).enumerate() {
+        let byte = &mut image[row_place(k)];
+        *byte = (*byte & !mask) | value;
     }
     image[MARK] = 0;
     Answer::Reset

@@ -1,4 +1,5 @@
 -- A least rank and its first position, gathered one position further; and what the scan passes over by them. Assumes nothing.
+use Rattle.std.specs.Prelude.{None}
 use mathlib.Core.Path.{◌≡◌, refl, sym, ap, ◌∙◌}
 use mathlib.Core.Bool.{Bool, true, false, false≢true, cond}
 use mathlib.Core.Logic.{◌≢◌, ◌⊎◌, inl, inr, ⊎_elim}
@@ -15,15 +16,14 @@ use borrow.Author.Tests.{eq-eqb, ne_eqb, eqb-true, le-ltb, ltb-true, ltb-false}
 use Rattle.bits.specs.Bits.{bit, put_bit}
 use Rattle.bits.proofs.BitLaws.{bit_zero, bit-same, bit-other}
 use Rattle.bits.proofs.Tests.{passes, holds}
-use Rattle.rules.specs.declared.Winner.TheVariants as winner
 use Rattle.rules.specs.Image.{Image, at, EIPLR}
-use Rattle.rules.specs.Channels.{most_records}
-use Rattle.rules.specs.Sources.{external_level}
+use Rattle.rules.specs.declared.Channel.{Channel}
+use Rattle.rules.specs.Sources.{sources, external_level}
 use Rattle.rules.specs.Requests.{won_by, first}
 use Rattle.rules.proofs.RestoredLaws.{trailing_clear, trailing_set}
 use Rattle.rules.proofs.Bools.{true_or, not_both}
 use Rattle.requests.specs.declared.Limits.{Limits}
-use Rattle.requests.specs.Ranks.{no_rank, interrupt_rank, external_rank, position_limit, requesting, rank_at, Gathered, may_request, Lowest, IsFront, found, found_of_kind, found_at_level, scanned}
+use Rattle.requests.specs.Ranks.{no_rank, interrupt_rank, external_rank, requesting, rank_at, Gathered, may_request, Lowest, IsFront, found, found_of_kind, found_at_level, scanned}
 use Rattle.requests.proofs.FirstLaws.{first_nobody}
 use Rattle.requests.proofs.RankLaws.{rank_external, external-none, ruled_out}
 
@@ -78,14 +78,14 @@ front_limit limit eiplr requesting z =
     go false l = refl
 
 -- none at all, where no external channel requests and no record may request
-pub front_idle : (limits : Limits) (m : Image) (places : List ℕ) (n gathered : ℕ) → requesting m ≡ 0 → may_request gathered ≡ false → Gathered m places most_records gathered → n ≤ position_limit
-    → IsFront (rank_at limits m places) n no_rank 0
-front_idle limits m places n gathered z e s h =
-    front_on _ _ _ _ (front_none (rank_at limits m places)) n (omega arith)
-    (λ p _ l. ⊎_elim (λ t. early p (ltb-true p 8 t)) (λ f. ruled_out limits m places gathered s e p (ltb-false p 8 f) (omega arith)) (true_or (ltb p 8)))
+pub front_idle : (limits : Limits) (m : Image) (cs : List Channel) (gathered : ℕ) → requesting m ≡ 0 → may_request gathered ≡ false → Gathered m cs gathered
+    → IsFront (rank_at limits m cs) (sources cs) no_rank 0
+front_idle limits m cs gathered z e all =
+    front_on _ _ _ _ (front_none (rank_at limits m cs)) (sources cs) (omega arith)
+    (λ s _ l. ⊎_elim (λ t. early s (ltb-true s 8 t)) (λ f. ruled_out limits m cs gathered all e s (ltb-false s 8 f) l) (true_or (ltb s 8)))
   where
-    early : (p : ℕ) → p < 8 → rank_at limits m places p ≡ no_rank
-    early p g = sym (rank_external limits m places p g) ∙ external-none limits.interrupt (at m EIPLR) (requesting m) p (ap (bit p) z ∙ bit_zero p g)
+    early : (s : ℕ) → s < 8 → rank_at limits m cs s ≡ no_rank
+    early s g = sym (rank_external limits m cs s g) ∙ external-none limits.interrupt (at m EIPLR) (requesting m) s (ap (bit s) z ∙ bit_zero s g)
 
 -- ---- the lowest bit that is 1
 
@@ -186,7 +186,7 @@ left_less left k low = go (ℕ_discrete (put_bit k false left) left)
 
 module _ (rank : ℕ → ℕ) (l kind p : ℕ) where
   -- nobody where the rank is another,
-  pub found_none : (rank p ≡ 2 * l + kind → ⊥) → found rank l kind p ≡ winner.Nobody
+  pub found_none : (rank p ≡ 2 * l + kind → ⊥) → found rank l kind p ≡ None
   unfolding found
   found_none n = rw (ne_eqb (rank p) (2 * l + kind) n)
 
@@ -197,21 +197,21 @@ module _ (rank : ℕ → ℕ) (l kind p : ℕ) where
 
 module _ (rank : ℕ → ℕ) (n least position : ℕ) (a : IsFront rank n least position) where
   -- nobody of a rank below the least,
-  pub found_below : (l kind : ℕ) → 2 * l + kind < least → found_of_kind rank n l kind ≡ winner.Nobody
+  pub found_below : (l kind : ℕ) → 2 * l + kind < least → found_of_kind rank n l kind ≡ None
   unfolding found_of_kind
   found_below l kind b = first_nobody (found rank l kind) n (λ p g. found_none rank l kind p (λ e. omega (arith, a.under p g)))
 
   -- so nobody of a level below its,
-  pub level-below : first (least / 2) (found_at_level rank n) ≡ winner.Nobody
+  pub level-below : first (least / 2) (found_at_level rank n) ≡ None
   unfolding found_at_level
   level-below = first_nobody (found_at_level rank n) (least / 2) (λ l h. first_nobody (found_of_kind rank n l) 2 (λ kind g. found_below l kind (omega arith)))
 
   -- nobody before where the scan of a rank starts,
-  pub found-start : (l kind start : ℕ) → start ≡ cond (eqb (2 * l + kind) least) position 0 → (start ≤ n) × (first start (found rank l kind) ≡ winner.Nobody)
+  pub found-start : (l kind start : ℕ) → start ≡ cond (eqb (2 * l + kind) least) position 0 → (start ≤ n) × (first start (found rank l kind) ≡ None)
   unfolding first
   found-start l kind start e = rw e (go (eqb (2 * l + kind) least) refl)
     where
-      go : (t : Bool) → eqb (2 * l + kind) least ≡ t → (cond t position 0 ≤ n) × (first (cond t position 0) (found rank l kind) ≡ winner.Nobody)
+      go : (t : Bool) → eqb (2 * l + kind) least ≡ t → (cond t position 0 ≤ n) × (first (cond t position 0) (found rank l kind) ≡ None)
       go true d = (
         a.within,
         first_nobody (found rank l kind) position (λ p g. found_none rank l kind p (λ c. omega (arith, a.before p g, eqb-true (2 * l + kind) least d))),
@@ -219,6 +219,6 @@ module _ (rank : ℕ → ℕ) (n least position : ℕ) (a : IsFront rank n least
       go false d = (omega arith, refl)
 
   -- and where no position has a rank, nobody at all
-  pub scanned_nobody : least ≡ no_rank → scanned rank n ≡ winner.Nobody
+  pub scanned_nobody : least ≡ no_rank → scanned rank n ≡ None
   unfolding scanned found_at_level
   scanned_nobody e = first_nobody (found_at_level rank n) 8 (λ l below. first_nobody (found_of_kind rank n l) 2 (λ kind two. found_below l kind (omega arith)))

@@ -1,18 +1,16 @@
 // Rules 3 to 5 of arbitration: who requests what, what is eligible, and the winner.
 #![tactic(auto)]
 
-ghost use Rattle.std.specs.Prelude.{◌≡◌, cond, ◌+◌, ◌%◌, ◌<◌, ◌≤◌, eqb, length};
+ghost use Rattle.std.specs.Prelude.{◌≡◌, cond, ◌%◌, ◌<◌, eqb};
 ghost use Rattle.bits.specs.Bits.{bit};
-ghost use Rattle.rules.specs.Image.{image_length};
 ghost use Rattle.rules.specs.Channels.{list_of};
-ghost use Rattle.rules.specs.Sources.{external_level};
+ghost use Rattle.rules.specs.Sources.{sources, external_level};
 ghost use Rattle.rules.specs.Requests.{won_by, winner_of};
-ghost use Rattle.channels.specs.Laid.{AcceptedPlaces};
-ghost use Rattle.requests.specs.Ranks.{record_request, limits_of, interrupt_rank, rank_of, external_rank, rank_at, position_limit, PlacesIn, Gathered, may_request, Lowest, IsFront, scanned};
+ghost use Rattle.requests.specs.Ranks.{record_request, limits_of, interrupt_rank, rank_of, external_rank, rank_at, Gathered, may_request, Lowest, IsFront, scanned};
 
 use bits::{has_bit, put_bit};
-use channels::{COUNT, PLACES};
-use rules::{CICR, Channels, DM, EIMR, EIPLR, EIPR, EXTERNALS, IEN, IM, IP, MOST_RECORDS, Winner};
+use channels::Places;
+use rules::{CICR, DM, EIMR, EIPLR, EIPR, EXTERNALS, IEN, IM, IMAGE_LENGTH, IP, Winner};
 
 // The rank of what is not eligible; that of an eligible request is below it.
 const NO_RANK: u8 = 16;
@@ -42,8 +40,7 @@ fn interrupt_limit(cicr: u8) -> u8
     0
 }
 
-fn limits_of(image: &[u8]) -> Limits
-    requires { length image.now ≡ image_length }
+fn limits_of(image: &[u8; IMAGE_LENGTH]) -> Limits
     ensures { result ≡ limits_of image.now }
 {
     let cicr = image[CICR];
@@ -54,6 +51,7 @@ fn limits_of(image: &[u8]) -> Limits
 }
 
 // The rank of an interrupt request at a level.
+#[tactic(auto, unfolding(crate::specs::Ranks::interrupt_rank))]
 fn interrupt_rank(limit: u8, level: u8) -> u8
     requires { level < 8 }
     ensures { result ≡ interrupt_rank limit level }
@@ -65,6 +63,7 @@ fn interrupt_rank(limit: u8, level: u8) -> u8
 }
 
 // The rank of what a record requests, by its IDCR: 2 * level + kind (0 DMA, 1 interrupt) where it is eligible.
+#[tactic(auto, unfolding(crate::specs::Ranks::record_request, crate::specs::Ranks::rank_of))]
 fn record_rank(idcr: u8, limits: Limits) -> u8
     ensures { result ≡ rank_of limits (record_request idcr) }
 {
@@ -85,6 +84,7 @@ fn record_rank(idcr: u8, limits: Limits) -> u8
 }
 
 // The rank of external channel k, by the channels that request: their EIPR and EIMR bits are 1.
+#[tactic(auto, unfolding(crate::specs::Ranks::external_rank))]
 fn external_rank(limit: u8, eiplr: u8, requesting: u8, k: u8) -> u8
     requires { k < 8 }
     ensures { result ≡ external_rank limit eiplr requesting k }
@@ -96,9 +96,9 @@ fn external_rank(limit: u8, eiplr: u8, requesting: u8, k: u8) -> u8
 }
 
 // The rank at a position.
-fn rank_at(image: &[u8], places: &[u16; PLACES], limits: Limits, position: usize) -> u8
-    requires { (length image.now ≡ image_length) × PlacesIn places.now × (position < position_limit) }
-    ensures { result ≡ rank_at limits image.now places.now position }
+fn rank_at(image: &[u8; IMAGE_LENGTH], places: &Places, limits: Limits, position: usize) -> u8
+    requires { position < sources (list_of places.now.all) }
+    ensures { result ≡ rank_at limits image.now (list_of places.now.all) position }
 {
     if position < EXTERNALS {
         return external_rank(
@@ -108,7 +108,7 @@ fn rank_at(image: &[u8], places: &[u16; PLACES], limits: Limits, position: usize
             position as u8,
         );
     }
-    record_rank(image[places[position - EXTERNALS] as usize], limits)
+    record_rank(image[places.idcr(position - EXTERNALS)], limits)
 }
 
 // A lower bound for the winner among some positions: none of them has a smaller rank, and none before `position` has this rank.
@@ -123,75 +123,76 @@ fn lowest(left: u8) -> u8
     requires { 0 < left }
     ensures { Lowest left result }
 {
-    u32::trailing_zeros(left as u32) as u8
+    u32::from(left).trailing_zeros() as u8
 }
 
 // The front of the external channels; only those that request are looked at, and where the limit is 0 none is eligible.
 fn externals_front(limit: u8, eiplr: u8, requesting: u8) -> Front
     ensures { IsFront (external_rank limit eiplr requesting) 8 result.rank result.position }
 {
+    let mut front = Front {
+        rank: NO_RANK,
+        position: 0,
+    };
     if limit == 0 {
-        return Front {
-            rank: NO_RANK,
-            position: 0,
-        };
+        return front;
     }
-    let mut rank = NO_RANK;
-    let mut position: usize = 0;
     let mut left = requesting;
     while left != 0 {
         let k = lowest(left);
         left = put_bit(left, k, false);
-        let r = interrupt_rank(limit, external_level(eiplr, k));
-        if rank <= r {
+        let rank = interrupt_rank(limit, external_level(eiplr, k));
+        if front.rank <= rank {
             continue;
         }
-        rank = r;
-        position = k as usize;
+        front = Front {
+            rank,
+            position: k as usize,
+        };
     }
-    Front { rank, position }
+    front
 }
 
 // The front of the external channels and the records.
 fn records_front(
-    image: &[u8],
-    places: &[u16; PLACES],
+    image: &[u8; IMAGE_LENGTH],
+    places: &Places,
     limits: Limits,
     externals: Front,
-    count: usize,
 ) -> Front
-    requires { (length image.now ≡ image_length) × PlacesIn places.now × (count ≤ 12)
-        × IsFront (rank_at limits image.now places.now) 8 externals.rank externals.position }
-    ensures { IsFront (rank_at limits image.now places.now) (8 + count) result.rank result.position }
+    requires { IsFront (rank_at limits image.now (list_of places.now.all)) 8 externals.rank externals.position }
+    ensures { IsFront (rank_at limits image.now (list_of places.now.all)) (sources (list_of places.now.all)) result.rank result.position }
 {
-    let mut rank = externals.rank;
-    let mut position = externals.position;
-    for k in 0..count {
-        let r = record_rank(image[places[k] as usize], limits);
+    let mut front = externals;
+    for k in 0..places.count() {
+        let rank = record_rank(image[places.idcr(k)], limits);
         // Most records have none; without this test, which the next makes too, the compiler takes 35 instructions more for twelve records.
-        if r == NO_RANK {
+        if rank == NO_RANK {
             continue;
         }
-        if rank <= r {
+        if front.rank <= rank {
             continue;
         }
-        rank = r;
-        position = EXTERNALS + k;
+        front = Front {
+            rank,
+            position: EXTERNALS + k,
+        };
     }
-    Front { rank, position }
+    front
 }
 
 // The winner of a level, a kind and a position.
-fn won(level: u8, kind: u8, position: u8) -> Winner
+#[tactic(auto, unfolding(rules::specs::Requests::won_by))]
+fn won(level: u8, kind: u8, position: u8) -> Option<Winner>
     ensures { result ≡ won_by level kind position }
 {
     if kind == 0 {
-        return Winner::Dma { source: position };
+        return Some(Winner::Dma { source: position });
     }
-    Winner::Interrupt {
+    Some(Winner::Interrupt {
         source: position,
         level,
-    }
+    })
 }
 
 // Where the scan of a rank's positions starts.
@@ -206,19 +207,12 @@ fn start_of(rank: u8, front: Front) -> usize
 
 // The first position of the first level and kind that has an eligible request. Ranks below the front's, and positions before it at that rank, are passed
 // over: none is there.
-fn scan(
-    image: &[u8],
-    places: &[u16; PLACES],
-    limits: Limits,
-    front: Front,
-    positions: usize,
-) -> Winner
-    requires { (length image.now ≡ image_length) × PlacesIn places.now × (positions ≤ position_limit)
-        × IsFront (rank_at limits image.now places.now) positions front.rank front.position }
-    ensures { result ≡ scanned (rank_at limits image.now places.now) positions }
+fn scan(image: &[u8; IMAGE_LENGTH], places: &Places, limits: Limits, front: Front) -> Option<Winner>
+    requires { IsFront (rank_at limits image.now (list_of places.now.all)) (sources (list_of places.now.all)) front.rank front.position }
+    ensures { result ≡ scanned (rank_at limits image.now (list_of places.now.all)) (sources (list_of places.now.all)) }
 {
-    let mut winner = Winner::Nobody;
-    'scan: for level in front.rank / 2..8 {
+    let positions = EXTERNALS + places.count();
+    for level in front.rank / 2..8 {
         for kind in 0..2 {
             let rank = 2 * level + kind;
             if rank < front.rank {
@@ -226,80 +220,63 @@ fn scan(
             }
             for position in start_of(rank, front)..positions {
                 if rank_at(image, places, limits, position) == rank {
-                    winner = won(level, kind, position as u8);
-                    break 'scan;
+                    return won(level, kind, position as u8);
                 }
             }
         }
     }
-    winner
+    None
 }
 
 // The bits of all IDCRs, gathered: a bit that is 0 here is 0 in each of them. The mark, which is 0 where an arbitration comes to this, stands in for
 // records that are not there, so that the number of looks is fixed; a mark that is set could only make the test below say yes too often.
-fn gathered_bits(image: &[u8], places: &[u16; PLACES]) -> u8
-    requires { (length image.now ≡ image_length) × PlacesIn places.now }
-    ensures { Gathered image.now places.now 12 result }
+fn gathered_bits(image: &[u8; IMAGE_LENGTH], places: &Places) -> u8
+    ensures { Gathered image.now (list_of places.now.all) result }
 {
-    let mut gathered: u8 = 0;
-    for k in 0..MOST_RECORDS {
-        gathered = gathered | image[places[k] as usize];
-    }
-    gathered
+    places.records.iter().fold(0, |gathered, record| gathered | image[record.idcr as usize])
 }
 
 // Whether some record may request, by the gathered bits: an IP, and a DM or an IM. They may be of several records, so that none does.
+#[tactic(auto, unfolding(crate::specs::Ranks::may_request))]
 fn may_request(gathered: u8) -> bool
     ensures { result ≡ may_request gathered }
 {
-    if !has_bit(gathered, IP) {
-        return false;
-    }
-    has_bit(gathered, DM) | has_bit(gathered, IM)
+    has_bit(gathered, IP) && (has_bit(gathered, DM) | has_bit(gathered, IM))
 }
 
 // The front of all positions. Where the gathered bits rule every record out, none is looked at.
-fn front_of(
-    image: &[u8],
-    places: &[u16; PLACES],
-    limits: Limits,
-    gathered: u8,
-    count: usize,
-) -> Front
-    requires { (length image.now ≡ image_length) × PlacesIn places.now × (count ≤ 12) × Gathered image.now places.now 12 gathered }
-    ensures { IsFront (rank_at limits image.now places.now) (8 + count) result.rank result.position }
+fn front_of(image: &[u8; IMAGE_LENGTH], places: &Places, limits: Limits, gathered: u8) -> Front
+    requires { Gathered image.now (list_of places.now.all) gathered }
+    ensures { IsFront (rank_at limits image.now (list_of places.now.all)) (sources (list_of places.now.all)) result.rank result.position }
 {
     let externals = externals_front(limits.interrupt, image[EIPLR], image[EIPR] & image[EIMR]);
     if may_request(gathered) {
-        return records_front(image, places, limits, externals, count);
+        return records_front(image, places, limits, externals);
     }
     externals
 }
 
 // The winner, where something may request.
-fn chosen(image: &[u8], places: &[u16; PLACES], gathered: u8, count: usize) -> Winner
-    requires { (length image.now ≡ image_length) × PlacesIn places.now × (count ≤ 12) × Gathered image.now places.now 12 gathered }
-    ensures { result ≡ scanned (rank_at (limits_of image.now) image.now places.now) (8 + count) }
+fn chosen(image: &[u8; IMAGE_LENGTH], places: &Places, gathered: u8) -> Option<Winner>
+    requires { Gathered image.now (list_of places.now.all) gathered }
+    ensures { result ≡ scanned (rank_at (limits_of image.now) image.now (list_of places.now.all)) (sources (list_of places.now.all)) }
 {
     let limits = limits_of(image);
-    let front = front_of(image, places, limits, gathered, count);
+    let front = front_of(image, places, limits, gathered);
     if front.rank == NO_RANK {
-        return Winner::Nobody;
+        return None;
     }
-    scan(image, places, limits, front, EXTERNALS + count)
+    scan(image, places, limits, front)
 }
 
 // The winner: levels from 0 up, within a level DMA before interrupt, then positions from 0 up. Where no external channel requests and no record
 // may request there is nothing to look for.
-pub fn winner_of(image: &[u8], all: Channels, places: &[u16; PLACES]) -> Winner
-    requires { AcceptedPlaces image.now (list_of all) places.now }
-    ensures { result ≡ winner_of image.now (list_of all) }
+pub fn winner_of(image: &[u8; IMAGE_LENGTH], places: &Places) -> Option<Winner>
+    ensures { result ≡ winner_of image.now (list_of places.now.all) }
 {
     let gathered = gathered_bits(image, places);
-    if (image[EIPR] & image[EIMR]) == 0 {
-        if !may_request(gathered) {
-            return Winner::Nobody;
-        }
+    if (image[EIPR] & image[EIMR]) == 0 && !may_request(gathered) {
+        return None;
     }
-    chosen(image, places, gathered, places[COUNT] as usize)
+    chosen(image, places, gathered)
 }

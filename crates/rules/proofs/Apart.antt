@@ -1,5 +1,6 @@
 -- On an image that is calm (Demand3 `Calm`: no DMA is enabled) the memory is apart: a step answers and leaves the same, whatever memory that fits it is lent. So a
 -- bound, which is lent none, speaks of steps with any such. Assumes nothing.
+use Rattle.std.specs.Prelude.{Option, Some, None}
 use mathlib.Core.Path.{◌≡◌, refl, ap}
 use mathlib.Core.List.{List, [], ◌∷◌, map}
 use mathlib.Core.Bool.{Bool, true, false, cond}
@@ -32,11 +33,11 @@ lent_event memory e = event_of (state e.before.image memory) e.step (lent_outcom
 -- ---- a step
 
 module _ (m : Image) (cs : List Channel) (a : Calm m cs) (one other : Memory) where
-  grant_apart : (w : Winner) → Won m cs w → granted (state m other) cs w ≡ lent_outcome other (granted (state m one) cs w)
+  grant_apart : (w : Option Winner) → Won m cs w → granted (state m other) cs w ≡ lent_outcome other (granted (state m one) cs w)
   unfolding granted
-  grant_apart winner.Nobody h = refl
-  grant_apart (winner.Dma w) h = absurd h
-  grant_apart (winner.Interrupt w l) h = refl
+  grant_apart None h = refl
+  grant_apart (Some (winner.Dma w)) h = absurd h
+  grant_apart (Some (winner.Interrupt w l)) h = refl
 
   act-apart : (x : Step) → act_of (state m other) cs x ≡ lent_outcome other (act_of (state m one) cs x)
   unfolding act_of

@@ -58,7 +58,7 @@ pub record DmaWins (m : Image) (cs : List Channel) (x : Step) (w : ℕ) : Type 0
   pub arbitrates : x ≡ step.Arbitrate
   pub idle : in_service m ≡ false
   pub no_top : top_level m ≡ false
-  pub wins : winner_of m cs ≡ winner.Dma w
+  pub wins : winner_of m cs ≡ (Some (winner.Dma w))
 
 -- with the register file a pair or an address over 223, with the memory a pointer over 222
 abbrev pub BadPointer : Image → Channel → Type 0
@@ -129,11 +129,11 @@ module _ (s : State) (cs : List Channel) (l : Lent s cs accepted) where
   abbrev Arbitrated : Outcome Answered State → Type 0
   Arbitrated c = Explained s cs step.Arbitrate c.answer
 
-  grant_explained : in_service m ≡ false → top_level m ≡ false → (w : Winner) → winner_of m cs ≡ w → Arbitrated (granted s cs w)
+  grant_explained : in_service m ≡ false → top_level m ≡ false → (w : Option Winner) → winner_of m cs ≡ w → Arbitrated (granted s cs w)
   unfolding granted transfer_of register_transfer memory_transfer served served_memory finished
-  grant_explained i t winner.Nobody e = tt
-  grant_explained i t (winner.Interrupt w k) e = tt
-  grant_explained i t (winner.Dma w) e =
+  grant_explained i t None e = tt
+  grant_explained i t (Some (winner.Interrupt w k)) e = tt
+  grant_explained i t (Some (winner.Dma w)) e =
       let c = record_of cs w in
       let wins : DmaWins m cs step.Arbitrate w = record { arbitrates = refl; idle = i; no_top = t; wins = e } in
       let n = pair_of m c in

@@ -1,5 +1,5 @@
 -- Document 02, §1: what a step does to the memory. Only an arbitration that serves a transfer into it changes it, and then one byte. Assumes nothing.
-use Rattle.std.specs.Prelude.{Ok}
+use Rattle.std.specs.Prelude.{Ok, Option, Some, None}
 use mathlib.Core.Path.{◌≡◌, refl, sym, ap, ◌∙◌}
 use mathlib.Core.Logic.{◌≢◌, ◌⊎◌, inl, inr, ⊎_elim}
 use mathlib.Core.List.{List, [], ◌∷◌}
@@ -71,11 +71,11 @@ module _ (s : State) (cs : List Channel) where
           })
       moved w false d even below = inl (rw d)
 
-  grant_fills : (w : Winner) → OneByte step.Arbitrate (granted s cs w)
+  grant_fills : (w : Option Winner) → OneByte step.Arbitrate (granted s cs w)
   unfolding granted
-  grant_fills winner.Nobody = inl refl
-  grant_fills (winner.Dma w) = transfer_fills w
-  grant_fills (winner.Interrupt w l) = inl refl
+  grant_fills None = inl refl
+  grant_fills (Some (winner.Dma w)) = transfer_fills w
+  grant_fills (Some (winner.Interrupt w l)) = inl refl
 
   act_fills : (x : Step) → OneByte x (act_of s cs x)
   unfolding act_of arbitrate_of

@@ -115,11 +115,11 @@ transfer-kept s c k =
     (λ f. cond_elim (Unchanged s) (ltb a (length s.memory)) (λ g. accepts (served_memory s c k p n a (word_at m n)) refl) (λ g t. refl)))
     (λ e. cond_elim (Unchanged s) (ltb last_register n || ltb last_register (at m n)) (λ f t. refl) (λ f. accepts (served s c k n (at m n) (at m (n + 1))) refl))
 
-granted-kept : (s : State) (cs : List Channel) (w : Winner) → Unchanged s (granted s cs w)
+granted-kept : (s : State) (cs : List Channel) (w : Option Winner) → Unchanged s (granted s cs w)
 unfolding granted
-granted-kept s cs winner.Nobody = λ t. refl
-granted-kept s cs (winner.Dma k) = transfer-kept s (record_of cs k) k
-granted-kept s cs (winner.Interrupt k l) = accepts (granted s cs (winner.Interrupt k l)) refl
+granted-kept s cs None = λ t. refl
+granted-kept s cs (Some (winner.Dma k)) = transfer-kept s (record_of cs k) k
+granted-kept s cs (Some (winner.Interrupt k l)) = accepts (granted s cs (Some (winner.Interrupt k l))) refl
 
 arbitration_kept : (s : State) (cs : List Channel) → Unchanged s (arbitrate_of s cs)
 unfolding arbitrate_of

@@ -1,6 +1,6 @@
 -- Document 01's order of an arbitration and its top level, read a second time: the mark comes first; when the top level is entered, what that and
 -- its return change and leave; what is left to the winner. Assumes nothing.
-use Rattle.std.specs.Prelude.{Ok}
+use Rattle.std.specs.Prelude.{Ok, Some, None}
 use mathlib.Core.Path.{◌≡◌, sym, ap, ◌∙◌}
 use mathlib.Core.Logic.{◌≢◌, inr}
 use mathlib.Core.List.{List}
@@ -44,9 +44,9 @@ top-level_when m = (λ p. rw p, λ p n. rw (p, n), λ p n. rw (p, n) (and_comm (
 -- rules 3 to 5, with neither: where nobody has won nothing changes; record k, as source 8 + k, gets its transfer;
 -- an interrupt is answered with its source, level and vector, and acknowledged
 pub winner_gets : (s : State) (cs : List Channel) → let m = s.image in in_service m ≡ false → top_level m ≡ false
-    → (winner_of m cs ≡ winner.Nobody → arbitrate_of s cs ≡ outcome (Ok answer.Nothing) s)
-    × ((k : ℕ) → winner_of m cs ≡ winner.Dma (8 + k) → arbitrate_of s cs ≡ transfer_of s (record_at cs k) (8 + k))
-    × ((w l : ℕ) → winner_of m cs ≡ winner.Interrupt w l
+    → (winner_of m cs ≡ None → arbitrate_of s cs ≡ outcome (Ok answer.Nothing) s)
+    × ((k : ℕ) → winner_of m cs ≡ (Some (winner.Dma (8 + k))) → arbitrate_of s cs ≡ transfer_of s (record_at cs k) (8 + k))
+    × ((w l : ℕ) → winner_of m cs ≡ (Some (winner.Interrupt w l))
     → arbitrate_of s cs ≡ outcome (Ok (answer.Interrupt w l (vector_of m cs w))) (state (acknowledged m cs w l) s.memory))
 unfolding arbitrate_of granted
 winner_gets s cs i t = (

@@ -15,7 +15,7 @@ use Rattle.rules.specs.declared.RunRefusal.TheVariants as run_refused
 use Rattle.rules.specs.declared.WaitEnd.{WaitEnd}
 use Rattle.rules.specs.declared.WaitEnd.TheVariants as wait
 use Rattle.rules.specs.declared.WaitRefusal.TheVariants as wait_refused
-use Rattle.rules.specs.Outcomes.{State, Outcome, outcome, acknowledges, Verdict, accepted, Answered}
+use Rattle.rules.specs.Outcomes.{refused_unless, State, Outcome, outcome, acknowledges, Verdict, accepted, Answered}
 use Rattle.rules.specs.Sources.{sources}
 use Rattle.rules.specs.Steps.{lent_verdict}
 use Rattle.rules.specs.Runs.{ran_by, waited_by, Event, history, state_after, any_event, until, steps_done, run_events, last_answer, run_answer, run_of, acknowledged_in, arbitrations_in, wait_events, wait_answer, wait_verdict, wait_of, wait_history, event_acknowledges, Ran, Waited}
@@ -48,6 +48,11 @@ module _ (s : State) (cs : List Channel) (source : ℕ) where
   pub source_next : lent_verdict s cs ≡ accepted → sources cs ≤ source → wait_verdict s cs source ≡ (Err refusal.Number)
   unfolding wait_verdict
   source_next v h = rw (v, le-ltb source (sources cs) h)
+
+  -- so the source decides where what is lent is accepted
+  pub wait-by_source : lent_verdict s cs ≡ accepted → wait_verdict s cs source ≡ refused_unless (ltb source (sources cs)) refusal.Number accepted
+  unfolding wait_verdict
+  wait-by_source v = rw v
 
   -- a wait report is accepted only with what is lent
   pub accepted-lent : wait_verdict s cs source ≡ accepted → lent_verdict s cs ≡ accepted

@@ -1,5 +1,6 @@
 -- The winner, said again: it is an eligible request, and nothing earlier in the order of level, kind and position is eligible; no winner means
 -- that nothing is. Then what this comes to where no source has DMA enabled. Assumes nothing.
+use Rattle.std.specs.Prelude.{Option, Some, None}
 use mathlib.Core.Path.{◌≡◌, refl, sym, ap, ◌∙◌}
 use mathlib.Core.Logic.{◌⊎◌, inl, inr}
 use mathlib.Core.List.{List}
@@ -23,38 +24,38 @@ use Rattle.rules.proofs.Bools.{impossible, and_l, and_r, or_cases, not_both}
 -- ---- the first that is somebody
 
 -- the winner is somebody
-abbrev pub Somebody : Winner → Type 0
-Somebody w = w ≡ winner.Nobody → ⊥
+abbrev pub Somebody : Option Winner → Type 0
+Somebody w = w ≡ None → ⊥
 
-dma_somebody : (s : ℕ) → Somebody (winner.Dma s)
+dma_somebody : (s : ℕ) → Somebody (Some (winner.Dma s))
 dma_somebody s e = impossible (cc)
 
-interrupt_somebody : (s l : ℕ) → Somebody (winner.Interrupt s l)
+interrupt_somebody : (s l : ℕ) → Somebody (Some (winner.Interrupt s l))
 interrupt_somebody s l e = impossible (cc)
 
-or_none : (a b : Winner) → or_winner a b ≡ winner.Nobody → (a ≡ winner.Nobody) × (b ≡ winner.Nobody)
-or_none winner.Nobody b e = (refl, e)
-or_none (winner.Dma s) b e = absurd (dma_somebody s e)
-or_none (winner.Interrupt s l) b e = absurd (interrupt_somebody s l e)
+or_none : (a b : Option Winner) → or_winner a b ≡ None → (a ≡ None) × (b ≡ None)
+or_none None b e = (refl, e)
+or_none (Some (winner.Dma s)) b e = absurd (dma_somebody s e)
+or_none (Some (winner.Interrupt s l)) b e = absurd (interrupt_somebody s l e)
 
 -- `first n f` is f i, and nobody is before
-pub record Found (n : ℕ) (f : ℕ → Winner) (w : Winner) : Type 0 where
+pub record Found (n : ℕ) (f : ℕ → Option Winner) (w : Option Winner) : Type 0 where
   pub place : ℕ
   pub below : place < n
   pub here : f place ≡ w
-  pub before : (j : ℕ) → j < place → f j ≡ winner.Nobody
+  pub before : (j : ℕ) → j < place → f j ≡ None
 
-module _ (f : ℕ → Winner) where
-  first-none : (n : ℕ) → first n f ≡ winner.Nobody → (i : ℕ) → i < n → f i ≡ winner.Nobody
+module _ (f : ℕ → Option Winner) where
+  first-none : (n : ℕ) → first n f ≡ None → (i : ℕ) → i < n → f i ≡ None
   unfolding first
   first-none zero e i h = absurd (not-suc-le-zero h)
   first-none (suc n) e i h = let q = or_none (first n f) (f n) e in go q.1 (first-none n q.0 i) (ℕ_discrete i n)
     where
-      go : f n ≡ winner.Nobody → (i < n → f i ≡ winner.Nobody) → Dec (i ≡ n) → f i ≡ winner.Nobody
+      go : f n ≡ None → (i < n → f i ≡ None) → Dec (i ≡ n) → f i ≡ None
       go q ih (yes d) = ap f d ∙ q
       go q ih (no d) = ih (omega arith)
 
-  first_found : (n : ℕ) (w : Winner) → first n f ≡ w → Somebody w → Found n f w
+  first_found : (n : ℕ) (w : Option Winner) → first n f ≡ w → Somebody w → Found n f w
   unfolding first
   first_found zero w e s = absurd (s (sym e))
   first_found (suc n) w e s = go (first n f) refl (first_found n w) e
@@ -62,10 +63,10 @@ module _ (f : ℕ → Winner) where
       more : Found n f w → Found (suc n) f w
       more q = record { place = q.place; below = omega (arith, q.below); here = q.here; before = q.before }
 
-      go : (o : Winner) → first n f ≡ o → (first n f ≡ w → Somebody w → Found n f w) → or_winner o (f n) ≡ w → Found (suc n) f w
-      go winner.Nobody d ih e = record { place = n; below = le_refl (suc n); here = e; before = first-none n d }
-      go (winner.Dma k) d ih e = more (ih (d ∙ e) s)
-      go (winner.Interrupt k l) d ih e = more (ih (d ∙ e) s)
+      go : (o : Option Winner) → first n f ≡ o → (first n f ≡ w → Somebody w → Found n f w) → or_winner o (f n) ≡ w → Found (suc n) f w
+      go None d ih e = record { place = n; below = le_refl (suc n); here = e; before = first-none n d }
+      go (Some (winner.Dma k)) d ih e = more (ih (d ∙ e) s)
+      go (Some (winner.Interrupt k l)) d ih e = more (ih (d ∙ e) s)
 
 -- ---- requests in the order of level, kind and position
 
@@ -126,41 +127,41 @@ pub won_somebody : (l k p : ℕ) → Somebody (won_by l k p)
 unfolding won_by
 won_somebody l k p = go (eqb k 0)
   where
-    go : (t : Bool) → Somebody (cond t (winner.Dma p) (winner.Interrupt p l))
+    go : (t : Bool) → Somebody (cond t (Some (winner.Dma p)) (Some (winner.Interrupt p l)))
     go true = dma_somebody p
     go false = interrupt_somebody p l
 
 module _ (m : Image) (cs : List Channel) where
-  candidate-none : (l k p : ℕ) → candidate m cs l k p ≡ winner.Nobody → Asks m cs l k p → ⊥
+  candidate-none : (l k p : ℕ) → candidate m cs l k p ≡ None → Asks m cs l k p → ⊥
   unfolding candidate
   candidate-none l k p e a = won_somebody l k p (rw (a.allowed, a.is) at e)
 
-  candidate_some : (l k p : ℕ) (w : Winner) → p < sources cs → candidate m cs l k p ≡ w → Somebody w → (w ≡ won_by l k p) × Asks m cs l k p
+  candidate_some : (l k p : ℕ) (w : Option Winner) → p < sources cs → candidate m cs l k p ≡ w → Somebody w → (w ≡ won_by l k p) × Asks m cs l k p
   unfolding candidate
   candidate_some l k p w h e s = go (eligible m (request_of m cs p)) (is_at l k (request_of m cs p)) refl refl e
     where
       go : (a b : Bool) → eligible m (request_of m cs p) ≡ a → is_at l k (request_of m cs p) ≡ b
-          → cond (a && b) (won_by l k p) winner.Nobody ≡ w → (w ≡ won_by l k p) × Asks m cs l k p
+          → cond (a && b) (won_by l k p) None ≡ w → (w ≡ won_by l k p) × Asks m cs l k p
       go true true ha hb e = (sym e, record { there = h; allowed = ha; is = hb })
       go true false ha hb e = absurd (s (sym e))
       go false b ha hb e = absurd (s (sym e))
 
-  kind-none : (l k : ℕ) → winner_of_kind m cs l k ≡ winner.Nobody → (p : ℕ) → Asks m cs l k p → ⊥
+  kind-none : (l k : ℕ) → winner_of_kind m cs l k ≡ None → (p : ℕ) → Asks m cs l k p → ⊥
   unfolding winner_of_kind
   kind-none l k e p a = candidate-none l k p (first-none (candidate m cs l k) (sources cs) e p a.there) a
 
-  level-none : (l : ℕ) → winner_at_level m cs l ≡ winner.Nobody → (k p : ℕ) → Asks m cs l k p → ⊥
+  level-none : (l : ℕ) → winner_at_level m cs l ≡ None → (k p : ℕ) → Asks m cs l k p → ⊥
   unfolding winner_at_level
   level-none l e k p a = kind-none l k (first-none (winner_of_kind m cs l) 2 e k (is-kind l k (request_of m cs p) a.is)) p a
 
   -- no winner: nothing is eligible
-  pub winner_none : winner_of m cs ≡ winner.Nobody → (l k p : ℕ) → Asks m cs l k p → ⊥
+  pub winner_none : winner_of m cs ≡ None → (l k p : ℕ) → Asks m cs l k p → ⊥
   unfolding winner_of
   winner_none e l k p a =
       level-none l (first-none (winner_at_level m cs) 8 e l (omega (arith, (asks_requests m cs l k p a).above))) k p a
 
   -- the winner is eligible, and nothing earlier is
-  pub record Wins (w : Winner) : Type 0 where
+  pub record Wins (w : Option Winner) : Type 0 where
     pub level : ℕ
     pub kind : ℕ
     pub position : ℕ
@@ -168,7 +169,7 @@ module _ (m : Image) (cs : List Channel) where
     pub asks : Asks m cs level kind position
     pub earliest : (l k p : ℕ) → Precedes l k p level kind position → Asks m cs l k p → ⊥
 
-  pub winner_first : (w : Winner) → winner_of m cs ≡ w → Somebody w → Wins w
+  pub winner_first : (w : Option Winner) → winner_of m cs ≡ w → Somebody w → Wins w
   unfolding winner_of winner_at_level winner_of_kind
   winner_first w e s =
       let a : Found 8 (winner_at_level m cs) w = first_found (winner_at_level m cs) 8 w e s in
@@ -201,10 +202,10 @@ pub record Eligible (m : Image) (cs : List Channel) (s : ℕ) : Type 0 where
   pub no_dma : dma_enabled m cs s ≡ false
   pub above : level m cs s < CPL m
 
-abbrev pub Won : Image → List Channel → Winner → Type 0
-Won m cs winner.Nobody = (k : ℕ) → k < sources cs → Eligible m cs k → ⊥
-Won m cs (winner.Dma s) = ⊥
-Won m cs (winner.Interrupt s l) =
+abbrev pub Won : Image → List Channel → Option Winner → Type 0
+Won m cs None = (k : ℕ) → k < sources cs → Eligible m cs k → ⊥
+Won m cs (Some (winner.Dma s)) = ⊥
+Won m cs (Some (winner.Interrupt s l)) =
     (s < sources cs) × (l ≡ level m cs s) × Eligible m cs s × ((k : ℕ) → k < sources cs → outranks m cs k s ≡ true → Eligible m cs k → ⊥)
 
 module _ (m : Image) (cs : List Channel) where
@@ -241,14 +242,14 @@ module _ (m : Image) (cs : List Channel) where
               λ j g o e. early (level m cs j) 1 j (rw (q.0, ← r.levelled) (outranks_precedes j p o)) (eligible-asks j g e),
             )
 
-    wins-won : (w : Winner) → Wins m cs w → Won m cs w
+    wins-won : (w : Option Winner) → Wins m cs w → Won m cs w
     wins-won w q = rw q.is (of_kind q.level q.kind q.position q.asks q.earliest)
 
     -- the winner is an eligible interrupt that no eligible one outranks
     pub won : Won m cs (winner_of m cs)
     won = go (winner_of m cs) refl
       where
-        go : (w : Winner) → winner_of m cs ≡ w → Won m cs w
-        go winner.Nobody e = λ k h a. winner_none m cs e (level m cs k) 1 k (eligible-asks k h a)
-        go (winner.Dma s) e = wins-won (winner.Dma s) (winner_first m cs (winner.Dma s) e (dma_somebody s))
-        go (winner.Interrupt s l) e = wins-won (winner.Interrupt s l) (winner_first m cs (winner.Interrupt s l) e (interrupt_somebody s l))
+        go : (w : Option Winner) → winner_of m cs ≡ w → Won m cs w
+        go None e = λ k h a. winner_none m cs e (level m cs k) 1 k (eligible-asks k h a)
+        go (Some (winner.Dma s)) e = wins-won (Some (winner.Dma s)) (winner_first m cs (Some (winner.Dma s)) e (dma_somebody s))
+        go (Some (winner.Interrupt s l)) e = wins-won (Some (winner.Interrupt s l)) (winner_first m cs (Some (winner.Interrupt s l)) e (interrupt_somebody s l))

@@ -1,5 +1,5 @@
 -- Document 01, "Arbitration": the mark, the top level, and what the winner gets. Assumes nothing.
-use Rattle.std.specs.Prelude.{Bool, true, false, cond, ◌&&◌, ◌||◌, List, ℕ, ◌+◌, ◌*◌, ◌/◌, leb, set, Ok}
+use Rattle.std.specs.Prelude.{Bool, true, false, cond, ◌&&◌, ◌||◌, List, ℕ, ◌+◌, ◌*◌, ◌/◌, leb, set, Ok, Option, Some, None}
 use Rattle.rules.specs.declared.Channel.{Channel}
 use Rattle.rules.specs.declared.Answer.TheVariants as answer
 use Rattle.rules.specs.declared.Winner.{Winner}
@@ -50,10 +50,10 @@ acknowledged m cs source l = put (cleared (acknowledged_levels m l) cs source) I
 -- ---- an arbitration
 
 -- what the winner gets; a DMA request that has won may be refused with 6 or 5, and it alone concerns the memory
-unfoldable pub granted : State → List Channel → Winner → Outcome Answered State
-granted s cs winner.Nobody = outcome (Ok answer.Nothing) s
-granted s cs (winner.Dma source) = transfer_of s (record_of cs source) source
-granted s cs (winner.Interrupt source l) =
+unfoldable pub granted : State → List Channel → Option Winner → Outcome Answered State
+granted s cs None = outcome (Ok answer.Nothing) s
+granted s cs (Some (winner.Dma source)) = transfer_of s (record_of cs source) source
+granted s cs (Some (winner.Interrupt source l)) =
     let m = s.image in
     changed s (outcome (Ok (answer.Interrupt source l (vector_of m cs source))) (acknowledged m cs source l))
 

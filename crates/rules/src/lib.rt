@@ -134,18 +134,16 @@ pub enum Trigger {
     Unknown,
 }
 
-// What a source asks for, with its level.
-#[derive(Clone, Copy)]
+// What a source asks for, with its level; one that asks for nothing has none.
+#[derive(Clone, Copy, PartialEq, Eq)]
 pub enum Request {
-    Nothing,
     Dma(u8),
     Interrupt(u8),
 }
 
-// The request that arbitration chose.
-#[derive(Clone, Copy)]
+// The request that arbitration chose, if any.
+#[derive(Clone, Copy, PartialEq, Eq)]
 pub enum Winner {
-    Nobody,
     Dma { source: u8 },
     Interrupt { source: u8, level: u8 },
 }

@@ -1,34 +1,33 @@
 // Lists of steps on an image, a memory and a list that are accepted: runs, single steps and wait reports.
 #![tactic(auto)]
 
-ghost use Rattle.std.specs.Prelude.{◌≡◌};
+ghost use Rattle.std.specs.Prelude.{◌≡◌, ◌<◌};
+ghost use Rattle.rules.specs.Image.{Fits};
 ghost use Rattle.rules.specs.Channels.{list_of};
 ghost use Rattle.rules.specs.Outcomes.{state, alone, outcome};
 ghost use Rattle.rules.specs.Steps.{act_of};
+ghost use Rattle.rules.specs.Sources.{sources};
 ghost use Rattle.rules.specs.Runs.{run_of, wait_of};
 ghost use Rattle.rules.specs.Encodings.{decode_of, steps_of};
-ghost use Rattle.channels.specs.Laid.{AcceptedLaid, LentLaid, LentLaidSource};
 
-use channels::{MASKS, PLACES};
+use channels::Laid;
 use dispatch::{acknowledged, act, decode};
-use rules::{Answer, Channels, Refusal, Run, RunRefusal, WaitEnd, WaitRefusal};
+use rules::{Answer, IMAGE_LENGTH, Refusal, Run, RunRefusal, WaitEnd, WaitRefusal};
 
 // A run: the steps one after another, up to the first refused. In the archive `act` has this one caller (the steps by name of `machine` are not in it), so
 // that the compiler puts the steps' code into the loop.
 pub fn run_accepted(
-    image: &mut [u8],
+    image: &mut [u8; IMAGE_LENGTH],
     memory: &mut [u8],
-    all: Channels,
-    masks: &[u8; MASKS],
-    places: &[u16; PLACES],
+    laid: &Laid,
     words: &[u64],
 ) -> Result<Run, RunRefusal>
-    requires { LentLaid (state image.old memory.old) (list_of all) masks.now places.now }
-    ensures { outcome result (state image.new memory.new) ≡ run_of (state image.old memory.old) (list_of all) (steps_of words.now) }
+    requires { Fits memory.old }
+    ensures { outcome result (state image.new memory.new) ≡ run_of (state image.old memory.old) (list_of laid.now.places.all) (steps_of words.now) }
 {
     let mut last = None;
     for (index, &word) in words.iter().enumerate() {
-        match act(image, memory, all, masks, places, decode(word)) {
+        match act(image, memory, laid, decode(word)) {
             Ok(a) => last = Some(a),
             Err(refusal) => return Err(RunRefusal::At { refusal, index }),
         }
@@ -41,17 +40,15 @@ pub fn run_accepted(
 
 // The step that a word stands for: a run of it alone.
 pub fn perform(
-    image: &mut [u8],
+    image: &mut [u8; IMAGE_LENGTH],
     memory: &mut [u8],
-    all: Channels,
-    masks: &[u8; MASKS],
-    places: &[u16; PLACES],
+    laid: &Laid,
     word: u64,
 ) -> Result<Answer, Refusal>
-    requires { LentLaid (state image.old memory.old) (list_of all) masks.now places.now }
-    ensures { outcome result (state image.new memory.new) ≡ act_of (state image.old memory.old) (list_of all) (decode_of word) }
+    requires { Fits memory.old }
+    ensures { outcome result (state image.new memory.new) ≡ act_of (state image.old memory.old) (list_of laid.now.places.all) (decode_of word) }
 {
-    match run_accepted(image, memory, all, masks, places, &[word]) {
+    match run_accepted(image, memory, laid, &[word]) {
         Ok(run) => Ok(run.last.unwrap()),
         Err(RunRefusal::Before(refusal)) => Err(refusal),
         Err(RunRefusal::At { refusal, .. }) => Err(refusal),
@@ -60,35 +57,30 @@ pub fn perform(
 
 // The same without a memory.
 pub fn perform_alone(
-    image: &mut [u8],
-    all: Channels,
-    masks: &[u8; MASKS],
-    places: &[u16; PLACES],
+    image: &mut [u8; IMAGE_LENGTH],
+    laid: &Laid,
     word: u64,
 ) -> Result<Answer, Refusal>
-    requires { AcceptedLaid image.old (list_of all) masks.now places.now }
-    ensures { outcome result (alone image.new) ≡ act_of (alone image.old) (list_of all) (decode_of word) }
+    ensures { outcome result (alone image.new) ≡ act_of (alone image.old) (list_of laid.now.places.all) (decode_of word) }
 {
     let mut none: [u8; 0] = [];
-    perform(image, &mut none, all, masks, places, word)
+    perform(image, &mut none, laid, word)
 }
 
 // The same up to the acknowledgement of a source, if there is one; every arbitration is counted that isn't refused.
 pub fn wait_accepted(
-    image: &mut [u8],
+    image: &mut [u8; IMAGE_LENGTH],
     memory: &mut [u8],
-    all: Channels,
-    masks: &[u8; MASKS],
-    places: &[u16; PLACES],
+    laid: &Laid,
     source: u32,
     words: &[u64],
 ) -> Result<WaitEnd, WaitRefusal>
-    requires { LentLaidSource (state image.old memory.old) (list_of all) masks.now places.now source }
-    ensures { outcome result (state image.new memory.new) ≡ wait_of (state image.old memory.old) (list_of all) source (steps_of words.now) }
+    requires { Fits memory.old × (source < sources (list_of laid.now.places.all)) }
+    ensures { outcome result (state image.new memory.new) ≡ wait_of (state image.old memory.old) (list_of laid.now.places.all) source (steps_of words.now) }
 {
     let mut arbitrations: usize = 0;
     for (done, &word) in words.iter().enumerate() {
-        match perform(image, memory, all, masks, places, word) {
+        match perform(image, memory, laid, word) {
             Ok(a) => {
                 arbitrations += dispatch::arbitrations(decode(word));
                 if acknowledged(a, source) {

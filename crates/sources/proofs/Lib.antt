@@ -1,2 +1,2 @@
 pub mod SourceReads
-pub mod SourceLoops
+pub mod SourceRanges

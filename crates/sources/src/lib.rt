@@ -1,157 +1,134 @@
-// What a source has, on an image and a list within the rules: whether it is pending and unmasked, and its level; which sources outrank it, and how many of these wait.
+// What a source has, on an image and an accepted list: whether it is pending and unmasked, and its level; which sources outrank it, and how many of
+// these wait.
 #![tactic(auto)]
 
-ghost use Rattle.std.specs.Prelude.{◌≡◌, true, ◌<◌, length};
+ghost use Rattle.std.specs.Prelude.{◌≡◌, ◌<◌, length};
 ghost use Rattle.rules.specs.Image.{image_length, at};
-ghost use Rattle.rules.specs.Channels.{record_at, idcr_byte, list_ok, list_of};
+ghost use Rattle.rules.specs.Channels.{record_at, idcr_byte, list_of};
 ghost use Rattle.rules.specs.Sources.{sources, pending, unmasked, dma_enabled, level};
-ghost use Rattle.rules.specs.Runs.{one_if};
 ghost use Rattle.rules.specs.Demand3.{outranks, rival};
 ghost use Rattle.rules.specs.Bounds.{any_dma};
-ghost use Rattle.channels.specs.Laid.{LaidPlaces, AcceptedPlaces, AcceptedPlacesSource};
 ghost use Rattle.sources.specs.Flags.{source_bit, pending_rival, pending_rivals};
 
 use bits::has_bit;
-use channels::{COUNT, PLACES};
+use channels::Places;
 use requests::external_level;
-use rules::{Channels, DM, EIMR, EIPLR, EIPR, EXTERNALS, IM, IP};
+use rules::{DM, EIMR, EIPLR, EIPR, EXTERNALS, IM, IMAGE_LENGTH, IP};
 
 // How many sources there are.
-pub fn source_count(all: Channels, places: &[u16; PLACES]) -> usize
-    requires { (list_ok (list_of all) ≡ true) × LaidPlaces (list_of all) places.now }
-    ensures { result ≡ sources (list_of all) }
+#[tactic(auto, unfolding(rules::specs::Sources::sources))]
+pub fn source_count(places: &Places) -> usize
+    ensures { result ≡ sources (list_of places.now.all) }
 {
-    EXTERNALS + (places[COUNT] as usize)
+    EXTERNALS + places.count()
 }
 
 // The IDCR of record k.
-fn idcr_of(image: &[u8], all: Channels, places: &[u16; PLACES], k: usize) -> u8
-    requires { (length image.now ≡ image_length) × (list_ok (list_of all) ≡ true) × LaidPlaces (list_of all) places.now × (k < length (list_of all)) }
-    ensures { result ≡ at image.now (idcr_byte (record_at (list_of all) k)) }
+fn idcr_of(image: &[u8; IMAGE_LENGTH], places: &Places, k: usize) -> u8
+    requires { k < length (list_of places.now.all) }
+    ensures { result ≡ at image.now (idcr_byte (record_at (list_of places.now.all) k)) }
 {
-    image[places[k] as usize]
+    image[places.idcr(k)]
 }
 
 // A bit that each source has: of an external channel bit `source` of a register, of a record bit k of its IDCR.
+#[tactic(auto, unfolding(rules::specs::Sources::sources))]
 fn source_bit(
-    image: &[u8],
-    all: Channels,
-    places: &[u16; PLACES],
+    image: &[u8; IMAGE_LENGTH],
+    places: &Places,
     source: usize,
     register: usize,
     k: u8,
 ) -> bool
-    requires { (length image.now ≡ image_length) × (list_ok (list_of all) ≡ true) × LaidPlaces (list_of all) places.now × (source < sources (list_of all)) × (register < image_length) × (k < 8) }
-    ensures { result ≡ source_bit image.now (list_of all) source register k }
+    requires { (source < sources (list_of places.now.all)) × (register < image_length) × (k < 8) }
+    ensures { result ≡ source_bit image.now (list_of places.now.all) source register k }
 {
     if source < EXTERNALS {
         return has_bit(image[register], source as u8);
     }
-    has_bit(idcr_of(image, all, places, source - EXTERNALS), k)
+    has_bit(idcr_of(image, places, source - EXTERNALS), k)
 }
 
 // Whether a source is pending: its EIPR or IP bit is 1.
-pub fn is_pending(image: &[u8], all: Channels, places: &[u16; PLACES], source: usize) -> bool
-    requires { AcceptedPlacesSource image.now (list_of all) places.now source }
-    ensures { result ≡ pending image.now (list_of all) source }
+#[tactic(auto, unfolding(rules::specs::Sources::pending, rules::specs::Sources::pending_bit))]
+pub fn is_pending(image: &[u8; IMAGE_LENGTH], places: &Places, source: usize) -> bool
+    requires { source < sources (list_of places.now.all) }
+    ensures { result ≡ pending image.now (list_of places.now.all) source }
 {
-    source_bit(image, all, places, source, EIPR, IP)
+    source_bit(image, places, source, EIPR, IP)
 }
 
 // Whether it is unmasked: its EIMR bit, or IM, is 1.
-pub fn is_unmasked(image: &[u8], all: Channels, places: &[u16; PLACES], source: usize) -> bool
-    requires { AcceptedPlacesSource image.now (list_of all) places.now source }
-    ensures { result ≡ unmasked image.now (list_of all) source }
+#[tactic(auto, unfolding(rules::specs::Sources::unmasked))]
+pub fn is_unmasked(image: &[u8; IMAGE_LENGTH], places: &Places, source: usize) -> bool
+    requires { source < sources (list_of places.now.all) }
+    ensures { result ≡ unmasked image.now (list_of places.now.all) source }
 {
-    source_bit(image, all, places, source, EIMR, IM)
+    source_bit(image, places, source, EIMR, IM)
 }
 
 // Whether it has DMA enabled: DM is 1; an external channel has none.
-pub fn is_dma_enabled(image: &[u8], all: Channels, places: &[u16; PLACES], source: usize) -> bool
-    requires { AcceptedPlacesSource image.now (list_of all) places.now source }
-    ensures { result ≡ dma_enabled image.now (list_of all) source }
+#[tactic(auto, unfolding(rules::specs::Sources::sources, rules::specs::Sources::dma_enabled))]
+pub fn is_dma_enabled(image: &[u8; IMAGE_LENGTH], places: &Places, source: usize) -> bool
+    requires { source < sources (list_of places.now.all) }
+    ensures { result ≡ dma_enabled image.now (list_of places.now.all) source }
 {
-    if source < EXTERNALS {
-        return false;
-    }
-    has_bit(idcr_of(image, all, places, source - EXTERNALS), DM)
+    EXTERNALS <= source && has_bit(idcr_of(image, places, source - EXTERNALS), DM)
 }
 
 // Its level, pending or not: an external channel's by EIPLR, a record's PRL.
-pub fn level_of(image: &[u8], all: Channels, places: &[u16; PLACES], source: usize) -> u8
-    requires { AcceptedPlacesSource image.now (list_of all) places.now source }
-    ensures { result ≡ level image.now (list_of all) source }
+#[tactic(auto, unfolding(rules::specs::Sources::sources, rules::specs::Sources::level))]
+pub fn level_of(image: &[u8; IMAGE_LENGTH], places: &Places, source: usize) -> u8
+    requires { source < sources (list_of places.now.all) }
+    ensures { result ≡ level image.now (list_of places.now.all) source }
 {
     if source < EXTERNALS {
         return external_level(image[EIPLR], source as u8);
     }
-    idcr_of(image, all, places, source - EXTERNALS) % 8
+    idcr_of(image, places, source - EXTERNALS) % 8
 }
 
 // Whether source k outranks ours, pending or not: a smaller level number or, at equal level, a smaller source number.
-fn is_outranking(image: &[u8], all: Channels, places: &[u16; PLACES], ours: usize, k: usize) -> bool
-    requires { (length image.now ≡ image_length) × (list_ok (list_of all) ≡ true) × LaidPlaces (list_of all) places.now × (ours < sources (list_of all)) × (k < sources (list_of all)) }
-    ensures { result ≡ outranks image.now (list_of all) k ours }
+#[tactic(auto, unfolding(rules::specs::Demand3::outranks))]
+fn is_outranking(image: &[u8; IMAGE_LENGTH], places: &Places, ours: usize, k: usize) -> bool
+    requires { (ours < sources (list_of places.now.all)) × (k < sources (list_of places.now.all)) }
+    ensures { result ≡ outranks image.now (list_of places.now.all) k ours }
 {
-    let own = level_of(image, all, places, ours);
-    let other = level_of(image, all, places, k);
+    let own = level_of(image, places, ours);
+    let other = level_of(image, places, k);
     (other < own) | ((other == own) & (k < ours))
 }
 
 // Whether source k is an unmasked one outranking ours.
-pub fn is_rival(image: &[u8], all: Channels, places: &[u16; PLACES], ours: usize, k: usize) -> bool
-    requires { (length image.now ≡ image_length) × (list_ok (list_of all) ≡ true) × LaidPlaces (list_of all) places.now × (ours < sources (list_of all)) × (k < sources (list_of all)) }
-    ensures { result ≡ rival image.now (list_of all) ours k }
+#[tactic(auto, unfolding(rules::specs::Demand3::rival))]
+pub fn is_rival(image: &[u8; IMAGE_LENGTH], places: &Places, ours: usize, k: usize) -> bool
+    requires { (ours < sources (list_of places.now.all)) × (k < sources (list_of places.now.all)) }
+    ensures { result ≡ rival image.now (list_of places.now.all) ours k }
 {
-    is_unmasked(image, all, places, k) & is_outranking(image, all, places, ours, k)
+    is_unmasked(image, places, k) & is_outranking(image, places, ours, k)
 }
 
-// 1 where source k is such a one and pending, else 0.
-fn pending_rival(
-    image: &[u8],
-    all: Channels,
-    places: &[u16; PLACES],
-    ours: usize,
-    k: usize,
-) -> usize
-    requires { (length image.now ≡ image_length) × (list_ok (list_of all) ≡ true) × LaidPlaces (list_of all) places.now × (ours < sources (list_of all)) × (k < sources (list_of all)) }
-    ensures { result ≡ one_if (pending_rival image.now (list_of all) ours k) }
+// Whether source k is such a one, and pending.
+fn is_pending_rival(image: &[u8; IMAGE_LENGTH], places: &Places, ours: usize, k: usize) -> bool
+    requires { (ours < sources (list_of places.now.all)) × (k < sources (list_of places.now.all)) }
+    ensures { result ≡ pending_rival image.now (list_of places.now.all) ours k }
 {
-    if is_pending(image, all, places, k) {
-        if is_rival(image, all, places, ours, k) {
-            return 1;
-        }
-    }
-    0
+    is_pending(image, places, k) && is_rival(image, places, ours, k)
 }
 
 // H of demand 3: how many unmasked sources outranking ours are pending.
-pub fn pending_rivals(image: &[u8], all: Channels, places: &[u16; PLACES], ours: usize) -> usize
-    requires { AcceptedPlacesSource image.now (list_of all) places.now ours }
-    ensures { result ≡ pending_rivals image.now (list_of all) ours }
+pub fn pending_rivals(image: &[u8; IMAGE_LENGTH], places: &Places, ours: usize) -> usize
+    requires { ours < sources (list_of places.now.all) }
+    ensures { result ≡ pending_rivals image.now (list_of places.now.all) ours }
 {
-    let end = source_count(all, places);
-    let mut n: usize = 0;
-    let mut k: usize = 0;
-    while k < end {
-        n += pending_rival(image, all, places, ours, k);
-        k += 1;
-    }
-    n
+    (0..source_count(places))
+        .filter(|&k| is_pending_rival(image, places, ours, k))
+        .count()
 }
 
 // Whether some record has DMA enabled.
-pub fn any_dma(image: &[u8], all: Channels, places: &[u16; PLACES]) -> bool
-    requires { AcceptedPlaces image.now (list_of all) places.now }
-    ensures { result ≡ any_dma image.now (list_of all) }
+pub fn any_dma(image: &[u8; IMAGE_LENGTH], places: &Places) -> bool
+    ensures { result ≡ any_dma image.now (list_of places.now.all) }
 {
-    let end = source_count(all, places);
-    let mut k = EXTERNALS;
-    while k < end {
-        if is_dma_enabled(image, all, places, k) {
-            return true;
-        }
-        k += 1;
-    }
-    false
+    (EXTERNALS..source_count(places)).any(|k| is_dma_enabled(image, places, k))
 }

@@ -1,57 +1,47 @@
 // What a DMA request that has won gets: a byte moves between the data register and the register file, or the memory.
 #![tactic(auto)]
 
-ghost use Rattle.std.specs.Prelude.{◌≡◌, ◌+◌, ◌*◌, ◌/◌, ◌%◌, ◌<◌, ◌≤◌, length, ◌==◌, slice_index, slice_set};
+ghost use Rattle.std.specs.Prelude.{◌≡◌, ◌+◌, ◌*◌, ◌/◌, ◌<◌, ◌≤◌, length, slice_set};
 ghost use Rattle.rules.specs.Image.{image_length, at};
-ghost use Rattle.rules.specs.Channels.{list_of, record_bytes};
+ghost use Rattle.rules.specs.Channels.{list_of};
 ghost use Rattle.rules.specs.Outcomes.{state, outcome};
 ghost use Rattle.rules.specs.Sources.{record_of};
-ghost use Rattle.rules.specs.Transfer.{settled, last_register, moved_byte, less_one, last_pair, word_at, put_word, moved_memory, one_more_word, less_one_word, served_memory, memory_transfer, transfer_of};
-ghost use Rattle.transfers.specs.Served.{PlacesRecord, AcceptedPlacesRecord, Finishes, Serves, ServesRegister};
+ghost use Rattle.rules.specs.Transfer.{settled, last_register, moved_byte, last_pair, word_at, put_word, moved_memory, served_memory, memory_transfer, transfer_of};
+ghost use Rattle.channels.specs.Laid.{bytes_of, BeforeMark};
+ghost use Rattle.transfers.specs.Served.{OfRecord, Finishes, Serves, ServesRegister};
 
 use bits::has_bit;
-use channels::{DAPRS, DATAS, DCPRS, DIRECTIONS, PLACES};
+use channels::{Places, RecordBytes};
 use fields::put_at;
-use rules::{Answer, Channels, DM, EXTERNALS, IM, IP, LAST_PAIR, LAST_REGISTER, Refusal};
-use std::num::{wrapping_add_u16, wrapping_sub_u8, wrapping_sub_u16};
+use rules::{Answer, DM, EXTERNALS, IM, IMAGE_LENGTH, IP, LAST_PAIR, LAST_REGISTER, Refusal};
 
-// ---- What is read of the source's record.
-
-// The first column of the places.
-const IDCRS: usize = 0;
-
-// The byte of one of its registers, by the register's column of the places.
-fn byte_of(all: Channels, places: &[u16; PLACES], source: usize, column: usize) -> usize
-    requires { PlacesRecord (list_of all) places.now source × (column < 60) × (column % 12 ≡ 0) }
-    ensures { (result ≡ slice_index (record_bytes (record_of (list_of all) source)) (column / 12)) × (result < image_length) }
+// The bytes of the source's record.
+#[tactic(auto, unfolding(rules::specs::Sources::sources))]
+fn record_of(places: &Places, source: u8) -> RecordBytes
+    requires { OfRecord (list_of places.now.all) source }
+    ensures place { result ≡ bytes_of (record_of (list_of places.now.all) source) }
+    ensures within { BeforeMark result }
 {
-    places[column + (source - EXTERNALS)] as usize
-}
-
-// Whether a byte moves from the data register.
-fn moves_in(all: Channels, places: &[u16; PLACES], source: usize) -> bool
-    requires { PlacesRecord (list_of all) places.now source }
-    ensures { result ≡ ((record_of (list_of all) source).direction == 0) }
-{
-    places[DIRECTIONS + (source - EXTERNALS)] == 0
+    places.record(usize::from(source) - EXTERNALS)
 }
 
 // The pair that the pointer at a byte names: bit 0 is cleared.
-fn pair_at(image: &[u8], pointer: usize) -> usize
-    requires { pointer < length image.now }
+fn pair_at(image: &[u8; IMAGE_LENGTH], pointer: u16) -> usize
+    requires { pointer < image_length }
     ensures { result ≡ at image.now pointer / 2 * 2 }
 {
-    (image[pointer] / 2 * 2) as usize
+    usize::from(image[usize::from(pointer)]) / 2 * 2
 }
 
 // ---- The end of a transfer, on either path.
 
 // IP is cleared; at the end of a block DM is, and IP becomes IM.
-fn settle(image: &mut [u8], all: Channels, places: &[u16; PLACES], source: usize, ended: bool)
-    requires { AcceptedPlacesRecord image.old (list_of all) places.now source }
-    ensures { image.new ≡ settled image.old (record_of (list_of all) source) ended }
+#[tactic(auto, unfolding(rules::specs::Transfer::settled))]
+fn settle(image: &mut [u8; IMAGE_LENGTH], places: &Places, source: u8, ended: bool)
+    requires { OfRecord (list_of places.now.all) source }
+    ensures { image.new ≡ settled image.old (record_of (list_of places.now.all) source) ended }
 {
-    let idcr = byte_of(all, places, source, IDCRS);
+    let idcr = usize::from(record_of(places, source).idcr);
     if ended {
         let im = has_bit(image[idcr], IM);
         put_at(image, idcr, DM, false);
@@ -62,12 +52,13 @@ fn settle(image: &mut [u8], all: Channels, places: &[u16; PLACES], source: usize
 }
 
 // After the move, with the new address and counter stored: a new counter of 0 ends the block.
-fn finish(image: &mut [u8], all: Channels, places: &[u16; PLACES], source: u8, count: u16) -> Answer
-    requires { AcceptedPlacesRecord image.old (list_of all) places.now source }
-    ensures { Finishes image.old (record_of (list_of all) source) source count result image.new }
+#[tactic(auto, unfolding(rules::specs::Transfer::finished))]
+fn finish(image: &mut [u8; IMAGE_LENGTH], places: &Places, source: u8, count: u16) -> Answer
+    requires { OfRecord (list_of places.now.all) source }
+    ensures { Finishes image.old (record_of (list_of places.now.all) source) source count result image.new }
 {
     let ended = count == 0;
-    settle(image, all, places, source as usize, ended);
+    settle(image, places, source, ended);
     Answer::Transferred { source, ended }
 }
 
@@ -82,29 +73,24 @@ struct Pair {
 }
 
 // Moves a byte between the data register and Ra.
-fn move_byte(image: &mut [u8], all: Channels, places: &[u16; PLACES], source: usize, a: u8)
-    requires { AcceptedPlacesRecord image.old (list_of all) places.now source }
-    ensures { image.new ≡ moved_byte image.old (record_of (list_of all) source) a }
+#[tactic(auto, unfolding(rules::specs::Transfer::moved_byte))]
+fn move_byte(image: &mut [u8; IMAGE_LENGTH], places: &Places, source: u8, a: u8)
+    requires { OfRecord (list_of places.now.all) source }
+    ensures { image.new ≡ moved_byte image.old (record_of (list_of places.now.all) source) a }
 {
-    let io = byte_of(all, places, source, DATAS);
-    let address = a as usize;
-    if moves_in(all, places, source) {
-        image[address] = image[io];
+    let record = record_of(places, source);
+    let data = usize::from(record.data);
+    let address = usize::from(a);
+    if record.direction == 0 {
+        image[address] = image[data];
     } else {
-        image[io] = image[address];
+        image[data] = image[address];
     }
 }
 
-// The counter minus one; 0 becomes 255.
-fn less_one(count: u8) -> u8
-    ensures { result ≡ less_one count }
-{
-    wrapping_sub_u8(count, 1)
-}
-
 // Rn and R(n+1) take the address that was read first, plus one, and the new counter.
-fn advance(image: &mut [u8], n: usize, address: u8, count: u8)
-    requires { (n + 1 < length image.old) × (address ≤ last_register) }
+fn advance(image: &mut [u8; IMAGE_LENGTH], n: usize, address: u8, count: u8)
+    requires { (n + 1 < image_length) × (address ≤ last_register) }
     ensures { image.new ≡ slice_set (slice_set image.old n (address + 1)) (n + 1) count }
 {
     image[n] = address + 1;
@@ -112,37 +98,38 @@ fn advance(image: &mut [u8], n: usize, address: u8, count: u8)
 }
 
 // The transfer over a pair; what its registers become is written after the move.
-fn serve(image: &mut [u8], all: Channels, places: &[u16; PLACES], source: u8, pair: Pair) -> Answer
-    requires { AcceptedPlacesRecord image.old (list_of all) places.now source × (pair.n ≤ last_register) × (pair.address ≤ last_register) }
-    ensures { Serves image.old (record_of (list_of all) source) source pair.n pair.address pair.count result image.new }
+#[tactic(auto, unfolding(rules::specs::Transfer::served, rules::specs::Transfer::advanced, rules::specs::Transfer::less_one))]
+fn serve(image: &mut [u8; IMAGE_LENGTH], places: &Places, source: u8, pair: Pair) -> Answer
+    requires { OfRecord (list_of places.now.all) source × (pair.n ≤ last_register) × (pair.address ≤ last_register) }
+    ensures { Serves image.old (record_of (list_of places.now.all) source) source pair.n pair.address pair.count result image.new }
 {
-    let left = less_one(pair.count);
-    move_byte(image, all, places, source as usize, pair.address);
+    let left = pair.count.wrapping_sub(1);
+    move_byte(image, places, source, pair.address);
     advance(image, pair.n, pair.address, left);
-    finish(image, all, places, source, left as u16)
+    finish(image, places, source, u16::from(left))
 }
 
 // Refused with 6 where the pair or the address is over R223.
+#[tactic(auto, unfolding(rules::specs::Transfer::register_transfer, rules::specs::Transfer::pair_of))]
 fn register_transfer(
-    image: &mut [u8],
-    all: Channels,
-    places: &[u16; PLACES],
+    image: &mut [u8; IMAGE_LENGTH],
+    places: &Places,
     source: u8,
 ) -> Result<Answer, Refusal>
-    requires { AcceptedPlacesRecord image.old (list_of all) places.now source }
-    ensures { ServesRegister image.old (record_of (list_of all) source) source result image.new }
+    requires { OfRecord (list_of places.now.all) source }
+    ensures { ServesRegister image.old (record_of (list_of places.now.all) source) source result image.new }
 {
-    let n = pair_at(image, byte_of(all, places, source as usize, DCPRS));
+    let n = pair_at(image, record_of(places, source).dcpr);
     if LAST_REGISTER < n {
         return Err(Refusal::Pointer);
     }
     let address = image[n];
     let count = image[n + 1];
-    if LAST_REGISTER < (address as usize) {
+    if LAST_REGISTER < usize::from(address) {
         return Err(Refusal::Pointer);
     }
     let pair = Pair { n, address, count };
-    Ok(serve(image, all, places, source, pair))
+    Ok(serve(image, places, source, pair))
 }
 
 // ---- With the memory.
@@ -157,97 +144,89 @@ struct Pairs {
 }
 
 // The 16-bit number that a pair holds, high byte first.
-fn word_at(image: &[u8], n: usize) -> u16
-    requires { n + 1 < length image.now }
+#[tactic(auto, unfolding(rules::specs::Transfer::word_at))]
+fn word_at(image: &[u8; IMAGE_LENGTH], n: usize) -> u16
+    requires { n + 1 < image_length }
     ensures { result ≡ word_at image.now n }
 {
-    (image[n] as u16) * 256 + (image[n + 1] as u16)
+    u16::from_be_bytes([image[n], image[n + 1]])
 }
 
 // Stores a 16-bit number in a pair.
-fn put_word(image: &mut [u8], n: usize, w: u16)
-    requires { n + 1 < length image.old }
+#[tactic(auto, unfolding(rules::specs::Transfer::put_word))]
+fn put_word(image: &mut [u8; IMAGE_LENGTH], n: usize, w: u16)
+    requires { n + 1 < image_length }
     ensures { image.new ≡ put_word image.old n w }
 {
-    image[n] = (w / 256) as u8;
-    image[n + 1] = (w % 256) as u8;
-}
-
-// The address plus one, and the counter minus one; each wraps at 16 bits.
-fn one_more_word(address: u16) -> u16
-    ensures { result ≡ one_more_word address }
-{
-    wrapping_add_u16(address, 1)
-}
-
-fn less_one_word(count: u16) -> u16
-    ensures { result ≡ less_one_word count }
-{
-    wrapping_sub_u16(count, 1)
+    let [high, low] = w.to_be_bytes();
+    image[n] = high;
+    image[n + 1] = low;
 }
 
 // Moves a byte between the data register and the memory.
+#[tactic(auto, unfolding(rules::specs::Transfer::moved_memory))]
 fn move_memory(
-    image: &mut [u8],
+    image: &mut [u8; IMAGE_LENGTH],
     memory: &mut [u8],
-    all: Channels,
-    places: &[u16; PLACES],
-    source: usize,
+    places: &Places,
+    source: u8,
     a: u16,
 )
-    requires { AcceptedPlacesRecord image.old (list_of all) places.now source × (a < length memory.old) }
-    ensures { state image.new memory.new ≡ moved_memory (state image.old memory.old) (record_of (list_of all) source) a }
+    requires { OfRecord (list_of places.now.all) source × (a < length memory.old) }
+    ensures { state image.new memory.new ≡ moved_memory (state image.old memory.old) (record_of (list_of places.now.all) source) a }
 {
-    let io = byte_of(all, places, source, DATAS);
-    let address = a as usize;
-    if moves_in(all, places, source) {
-        memory[address] = image[io];
+    let record = record_of(places, source);
+    let data = usize::from(record.data);
+    let address = usize::from(a);
+    if record.direction == 0 {
+        memory[address] = image[data];
     } else {
-        image[io] = memory[address];
+        image[data] = memory[address];
     }
 }
 
 // The transfer over two pairs: the address pair is written after the move, then the counter pair.
+#[tactic(auto, unfolding(rules::specs::Transfer::served_memory, rules::specs::Transfer::advanced_words, rules::specs::Transfer::less_one_word, rules::specs::Transfer::one_more_word))]
 fn serve_memory(
-    image: &mut [u8],
+    image: &mut [u8; IMAGE_LENGTH],
     memory: &mut [u8],
-    all: Channels,
-    places: &[u16; PLACES],
+    places: &Places,
     source: u8,
     pairs: Pairs,
 ) -> Answer
-    requires { AcceptedPlacesRecord image.old (list_of all) places.now source × (pairs.p ≤ last_pair) × (pairs.n ≤ last_pair) × (pairs.address < length memory.old) }
-    ensures { outcome (Ok result) (state image.new memory.new) ≡ served_memory (state image.old memory.old) (record_of (list_of all) source) source pairs.p pairs.n pairs.address pairs.count }
+    requires { OfRecord (list_of places.now.all) source × (pairs.p ≤ last_pair) × (pairs.n ≤ last_pair) × (pairs.address < length memory.old) }
+    ensures { outcome (Ok result) (state image.new memory.new) ≡ served_memory (state image.old memory.old) (record_of (list_of places.now.all) source) source pairs.p pairs.n pairs.address pairs.count }
 {
-    let left = less_one_word(pairs.count);
-    move_memory(image, memory, all, places, source as usize, pairs.address);
-    put_word(image, pairs.p, one_more_word(pairs.address));
+    let left = pairs.count.wrapping_sub(1);
+    move_memory(image, memory, places, source, pairs.address);
+    put_word(image, pairs.p, pairs.address.wrapping_add(1));
     put_word(image, pairs.n, left);
-    finish(image, all, places, source, left)
+    finish(image, places, source, left)
 }
 
 // Refused with 6 where a pointer is over 222, then with 5 where the address is not below the memory's length.
+#[tactic(auto, unfolding(rules::specs::Transfer::memory_transfer, rules::specs::Transfer::pair_of, rules::specs::Transfer::address_pair_of))]
 fn memory_transfer(
-    image: &mut [u8],
+    image: &mut [u8; IMAGE_LENGTH],
     memory: &mut [u8],
-    all: Channels,
-    places: &[u16; PLACES],
+    places: &Places,
     source: u8,
 ) -> Result<Answer, Refusal>
-    requires { AcceptedPlacesRecord image.old (list_of all) places.now source }
-    ensures { outcome result (state image.new memory.new) ≡ memory_transfer (state image.old memory.old) (record_of (list_of all) source) source }
+    requires { OfRecord (list_of places.now.all) source }
+    ensures { outcome result (state image.new memory.new) ≡ memory_transfer (state image.old memory.old) (record_of (list_of places.now.all) source) source }
 {
-    let n = pair_at(image, byte_of(all, places, source as usize, DCPRS));
+    let record = record_of(places, source);
+    let n = pair_at(image, record.dcpr);
     if LAST_PAIR < n {
         return Err(Refusal::Pointer);
     }
-    let p = pair_at(image, byte_of(all, places, source as usize, DAPRS));
+    let p = pair_at(image, record.dapr);
     if LAST_PAIR < p {
         return Err(Refusal::Pointer);
     }
     let address = word_at(image, p);
     let count = word_at(image, n);
-    if memory.len() <= (address as usize) {
+    if memory.len() <= usize::from(address) {
         return Err(Refusal::Address);
     }
     let pairs = Pairs {
@@ -256,23 +235,23 @@ fn memory_transfer(
         address,
         count,
     };
-    Ok(serve_memory(image, memory, all, places, source, pairs))
+    Ok(serve_memory(image, memory, places, source, pairs))
 }
 
 // A DMA service: with the memory where DCPR bit 0 is 0, else with the register file.
+#[tactic(auto, unfolding(rules::specs::Transfer::transfer_of))]
 pub fn transfer(
-    image: &mut [u8],
+    image: &mut [u8; IMAGE_LENGTH],
     memory: &mut [u8],
-    all: Channels,
-    places: &[u16; PLACES],
+    places: &Places,
     source: u8,
 ) -> Result<Answer, Refusal>
-    requires { AcceptedPlacesRecord image.old (list_of all) places.now source }
-    ensures { outcome result (state image.new memory.new) ≡ transfer_of (state image.old memory.old) (record_of (list_of all) source) source }
+    requires { OfRecord (list_of places.now.all) source }
+    ensures { outcome result (state image.new memory.new) ≡ transfer_of (state image.old memory.old) (record_of (list_of places.now.all) source) source }
 {
-    let dcpr = byte_of(all, places, source as usize, DCPRS);
+    let dcpr = usize::from(record_of(places, source).dcpr);
     if image[dcpr] % 2 == 0 {
-        return memory_transfer(image, memory, all, places, source);
+        return memory_transfer(image, memory, places, source);
     }
-    register_transfer(image, all, places, source)
+    register_transfer(image, places, source)
 }

@@ -3,7 +3,6 @@ use Prim.Native.Nat.{◌≤◌}
 use lib.ListN.{length}
 use Rattle.std.specs.Prelude.{None}
 use native.Mathlib.Omega.{arith}
-use borrow.Author.Rules.{rules}
 use Rattle.rules.specs.Runs.{one_if}
 use Rattle.rules.specs.Demand3.{rival}
 use Rattle.rules.proofs.Counting.{byte_one, one_le}
@@ -12,9 +11,6 @@ use Rattle.runs.proofs.RunSteps.{as_decoded}
 use Rattle.bounds.proofs.FollowedSteps.{triggers-told, followed-start, followed_end, followed-other, followed_on}
 use Rattle.bounds.proofs.followed.Goals as goal
 
-pub loop-index-init : goal.loop-index-init
-loop-index-init c = (omega arith, omega arith, search rules, rw c.copy_of-copy.ensures)
-
 pub returns-then-other_step : goal.returns-then-other_step
 returns-then-other_step c =
     let i = c.loop-index.invariant in
@@ -22,11 +18,8 @@ returns-then-other_step c =
     sym (followed-start _ _ _ _
     ∙ i.3
     ∙ followed-other _ _ _ _
-    (next_alone _ _ i.2 c.requires.1 c.loop-index-test.true x (as_decoded _ _ x c.perform_alone-a.ensures))
+    (next_alone _ _ i.2 c.args.laid.now.places.ok c.loop-index-test.true x (as_decoded _ _ x c.perform_alone-a.ensures))
     _ (sym c.other_step.ensures ∙ c.if-other_step.true))
-
-pub overflow_add-triggers : goal.overflow_add-triggers
-overflow_add-triggers c = omega (arith, c.from-triggers.ensures, byte_one c.is_rival_trigger.result, one_le c.is_rival_trigger.result)
 
 pub loop-index-preserved : goal.loop-index-preserved
 loop-index-preserved c =
@@ -34,13 +27,13 @@ loop-index-preserved c =
     let t = c.loop-index-test.true in
     let x = c.decode-step.ensures in
     let did = as_decoded _ _ x c.perform_alone-a.ensures in
-    let e = c.from-triggers.ensures ∙ byte_one c.is_rival_trigger.result ∙ ap one_if (c.is_rival_trigger.ensures ∙ sym (triggers-told _ _ c.requires.1 (rival _ _ _) _ _ _ did)) in (
+    let e = c.from-triggers.ensures ∙ byte_one c.is_rival_trigger.result ∙ ap one_if (c.is_rival_trigger.ensures ∙ sym (triggers-told _ _ c.args.laid.now.places.ok (rival _ _ _) _ _ _ did)) in (
       omega (arith, t),
       omega (arith, c.from-triggers.ensures, byte_one c.is_rival_trigger.result, one_le c.is_rival_trigger.result),
-      search rules,
+      omega arith,
       rw (c.first_disabled-disabled.ensures, c.has_bit-enabled.ensures, e) (i.3
           ∙ followed_on _ _ _ _
-          (next_alone _ _ i.2 c.requires.1 t x did)
+          (next_alone _ _ i.2 c.args.laid.now.places.ok t x did)
           _ (sym c.other_step.ensures ∙ c.if-other_step.false)),
     )
 
@@ -49,10 +42,6 @@ returns-in-Some c =
     let i = c.loop-index.invariant in
     let left : length c.args.words.now ≤ c.loop-index.index = omega (arith, i.0, c.loop-index-test.false) in
     sym (followed-start _ _ _ _ ∙ i.3 ∙ followed_end _ _ _ _ _ _ _ (no_word _ _ left) ∙ rw c.in-Some.is)
-
-pub within-requires : goal.within-requires
-within-requires c =
-    (c.requires.0, c.requires.1, c.requires.3, c.requires.4, omega arith)
 
 pub returns : goal.returns
 returns c =

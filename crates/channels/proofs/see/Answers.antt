@@ -5,4 +5,4 @@ use Rattle.channels.proofs.see.Goals as goal
 pub returns : goal.returns
 returns c =
     let e = in_row c.args.row c.args.register c.requires.1 in
-    (rw e, rw e)
+    rw (c.from.ensures, c.from-2.ensures) (rw e, rw e)

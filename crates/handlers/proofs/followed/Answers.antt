@@ -2,7 +2,6 @@ use mathlib.Core.Bool.{false}
 use mathlib.Core.Path.{◌≡◌, refl, sym, ap, ◌∙◌}
 use Prim.Native.Nat.{◌≤◌}
 use native.Mathlib.Omega.{arith}
-use borrow.Author.Rules.{rules}
 use Rattle.std.specs.Prelude.{Ok, Err}
 use Rattle.std.proofs.lemmas.Result.{err_from_is_err_and}
 use Rattle.rules.specs.Outcomes.{acknowledges}
@@ -10,9 +9,6 @@ use Rattle.dispatch.proofs.NextSteps.{next_alone, no_word}
 use Rattle.handlers.proofs.FollowLaws.{follows_few, broken_some, broken-none, followed-start, followed_end, followed-broken, followed-last, followed_on}
 use Rattle.handlers.proofs.followed.Goals.{in-Ok+else-acknowledged, in_default}
 use Rattle.handlers.proofs.followed.Goals as goal
-
-pub loop-index-init : goal.loop-index-init
-loop-index-init c = (omega arith, omega arith, search rules, rw c.copy_of-copy.ensures)
 
 pub returns-in_err-seen : goal.returns-in_err-seen
 returns-in_err-seen c =
@@ -22,18 +18,8 @@ returns-in_err-seen c =
     rw (p.1, p.2) (sym (followed-start _ _ _ _
     ∙ i.3
     ∙ followed-broken _ _ _ _ _
-    (next_alone _ _ i.2 c.requires.1 c.loop-index-test.true refl c.follow-seen.ensures.did) _ _
+    (next_alone _ _ i.2 c.args.laid.now.places.ok c.loop-index-test.true refl c.follow-seen.ensures.did) _ _
     (broken_some _ _ (sym c.follow-seen.ensures.breaks ∙ failed))))
-
-pub overflow_add-triggers : goal.overflow_add-triggers
-overflow_add-triggers c =
-    let few : c.follow-seen.result.more ≤ 12 = follows_few _ _ _ _ _ _ _ _ c.requires.1 c.follow-seen.ensures in
-    omega (arith, few)
-
-pub within-requires : goal.within-requires
-within-requires c =
-    let few : c.follow-seen.result.more ≤ 12 = follows_few _ _ _ _ _ _ _ _ c.requires.1 c.follow-seen.ensures in
-    (c.requires.0, c.requires.1, c.requires.3, c.requires.4, omega (arith, few))
 
 pub returns-then-acknowledged : goal.returns-then-acknowledged
 returns-then-acknowledged c =
@@ -41,13 +27,13 @@ returns-then-acknowledged c =
     sym (followed-start _ _ _ _
     ∙ i.3
     ∙ followed-last _ _ _ _ _
-    (next_alone _ _ i.2 c.requires.1 c.loop-index-test.true refl c.follow-seen.ensures.did) _
+    (next_alone _ _ i.2 c.args.laid.now.places.ok c.loop-index-test.true refl c.follow-seen.ensures.did) _
     (broken-none _ (sym c.follow-seen.ensures.breaks ∙ (let held : c.follow-seen.result.broken ≡ Ok tt = grind arith in held))) (ap (acknowledges c.args.source) c.in-Ok.is ∙ sym c.acknowledged.ensures ∙ c.if-acknowledged.true)
     ∙ rw (c.within.ensures, c.follow-seen.ensures.counts))
 
 pub loop-index-preserved : goal.loop-index-preserved
 loop-index-preserved c =
-    let few : c.follow-seen.result.more ≤ 12 = follows_few _ _ _ _ _ _ _ _ c.requires.1 c.follow-seen.ensures in
+    let few : c.follow-seen.result.more ≤ 12 = follows_few _ _ _ _ _ _ _ _ c.args.laid.now.places.ok c.follow-seen.ensures in
     let kept : acknowledges c.args.source c.follow-seen.result.answer ≡ false = elim c.match-seen.branch [
       | in-Ok+else-acknowledged w ↦ ap (acknowledges c.args.source) w.in-Ok.is ∙ sym w.acknowledged.ensures ∙ w.if-acknowledged.false
       | in_default w ↦ ap (acknowledges c.args.source) w.in_default.is
@@ -55,16 +41,12 @@ loop-index-preserved c =
     let i = c.loop-index.invariant in (
       omega arith,
       omega (arith, few),
-      search rules,
+      omega arith,
       rw c.follow-seen.ensures.counts (i.3
           ∙ followed_on _ _ _ _ _
-          (next_alone _ _ i.2 c.requires.1 c.loop-index-test.true refl c.follow-seen.ensures.did) _
+          (next_alone _ _ i.2 c.args.laid.now.places.ok c.loop-index-test.true refl c.follow-seen.ensures.did) _
           (broken-none _ (sym c.follow-seen.ensures.breaks ∙ (let held : c.follow-seen.result.broken ≡ Ok tt = grind arith in held))) kept),
     )
-
-pub within-requires-2 : goal.within-requires-2
-within-requires-2 c =
-    (c.requires.0, c.requires.1, c.requires.3, c.requires.4, omega arith)
 
 pub returns : goal.returns
 returns c = sym (followed-start _ _ _ _ ∙ c.loop-index.invariant.3 ∙ followed_end _ _ _ _ _ _ _ (no_word _ _ c.loop-index-test.false) ∙ sym c.within-2.ensures)

@@ -1,25 +1,53 @@
--- Where what is lent is accepted the step is done, and else it is refused; the definition goes by the same verdict.
-use mathlib.Core.Path.{◌≡◌, refl, sym, ◌∙◌}
+-- Each refusal is the definition's, in its order; past them the step is done.
+use mathlib.Core.Path.{◌≡◌, refl, sym, ap, ◌∙◌}
 use native.Mathlib.Omega.{arith}
-use Rattle.std.specs.Prelude.{Err}
-use Rattle.std.proofs.lemmas.Result.{err_from_is_err_and}
-use Rattle.rules.specs.Outcomes.{accepted}
-use Rattle.machine.proofs.LentLaws.{lent_laid, does-by}
+use Rattle.std.specs.Prelude.{Some, None, Ok, Err}
+use Rattle.std.proofs.lemmas.Option.{MatchOption-at_some, MatchOption-at_none}
+use Rattle.std.proofs.lemmas.Result.{err_from_is_err_and, MatchResult-at_ok, MatchResult-at_err}
+use Rattle.rules.specs.declared.Refusal.TheVariants as refusal
+use Rattle.rules.specs.Outcomes.{Answered, accepted, alone, outcome, state}
+use Rattle.rules.specs.Steps.{act_of}
+use Rattle.rules.specs.Encodings.{told_run, told_wait}
+use Rattle.rules.proofs.Refusals.{lent_length, lent_list, lent-accepted}
+use Rattle.rules.proofs.WaitLaws.{lent-first, wait-by_source}
+use Rattle.runs.proofs.RunSteps.{promised}
+use Rattle.machine.proofs.LentLaws.{lent-by_memory, does-by, run-refuses, wait-refuses, bounds_by, handler_bounds_by}
 use Rattle.machine.proofs.one_step.Goals as goal
 
-pub returns-in_err-lent_verdict : goal.returns-in_err-lent_verdict
-returns-in_err-lent_verdict c =
+pub returns-in_err-image : goal.returns-in_err-image
+returns-in_err-image c =
     let p = err_from_is_err_and c.from_residual.result c.from_residual.ensures.1 in
-    let v : c.lent_verdict.result ≡ Err c.in_err-lent_verdict.field-0.0 = grind arith in
-    rw (p.1, p.2) (does-by _ _ _ _ _ _ (sym c.lent_verdict.ensures.0 ∙ v) refl)
+    let none : c.as_mut_array.result ≡ None = grind arith in
+    let e : c.in_err-image.field-0.0 ≡ refusal.Length = grind arith in
+    rw (p.1, p.2, e) (does-by _ _ _ _ _ _ (lent_length _ _ (MatchOption-at_none _ _ none c.as_mut_array.ensures.cases)) refl)
 
-pub act-requires : goal.act-requires
-act-requires c =
-    let v : c.lent_verdict.result ≡ accepted = grind arith in
-    let l = lent_laid _ _ _ _ v c.lent_verdict.ensures in
-    (l.0, l.1, l.2, l.3)
+pub returns-in_err-lay : goal.returns-in_err-lay
+returns-in_err-lay c =
+    let p = err_from_is_err_and c.from_residual-in_err-lay.result c.from_residual-in_err-lay.ensures.1 in
+    let some : c.as_mut_array.result ≡ Some c.in_ok-image.image = grind arith in
+    let whole = MatchOption-at_some _ _ _ some c.as_mut_array.ensures.cases in
+    let v : c.lay.result ≡ Err c.in_err-lay.field-0.0 = grind arith in
+    let bad = MatchResult-at_err _ _ _ v c.lay.ensures in
+    rw (p.1, p.2, bad.0, whole.same) (does-by _ _ _ _ _ _ (lent_list _ _ whole.long bad.1) refl)
+
+pub returns-in_err-memory_verdict : goal.returns-in_err-memory_verdict
+returns-in_err-memory_verdict c =
+    let p = err_from_is_err_and c.from_residual-in_err-memory_verdict.result c.from_residual-in_err-memory_verdict.ensures.1 in
+    let some : c.as_mut_array.result ≡ Some c.in_ok-image.image = grind arith in
+    let whole = MatchOption-at_some _ _ _ some c.as_mut_array.ensures.cases in
+    let laid : c.lay.result ≡ Ok tt = grind arith in
+    let its = MatchResult-at_ok _ _ _ laid c.lay.ensures in
+    let ok = rw its.1 at c.lay.new.self.places.ok in
+    let v : c.memory_verdict.result ≡ Err c.in_err-memory_verdict.field-0.0 = grind arith in
+    rw (p.1, p.2, whole.same) (does-by _ _ _ _ _ _ (lent-by_memory _ _ whole.long ok ∙ sym c.memory_verdict.ensures ∙ v) refl)
 
 pub returns : goal.returns
 returns c =
-    let v : c.lent_verdict.result ≡ accepted = grind arith in
-    does-by _ _ _ _ _ _ (sym c.lent_verdict.ensures.0 ∙ v) c.act.ensures
+    let some : c.as_mut_array.result ≡ Some c.in_ok-image.image = grind arith in
+    let whole = MatchOption-at_some _ _ _ some c.as_mut_array.ensures.cases in
+    let laid : c.lay.result ≡ Ok tt = grind arith in
+    let its = MatchResult-at_ok _ _ _ laid c.lay.ensures in
+    let ok = rw its.1 at c.lay.new.self.places.ok in
+    let v : c.memory_verdict.result ≡ accepted = grind arith in
+    let lent = lent-by_memory _ _ whole.long ok ∙ sym c.memory_verdict.ensures ∙ v in
+    does-by _ _ _ _ _ _ lent (rw (whole.same, its.1) at c.act.ensures)

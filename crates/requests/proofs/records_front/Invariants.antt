@@ -1,10 +1,8 @@
--- The invariant: the external channels and the records below k are accounted for.
-use Prim.Native.Nat.{◌+◌, ◌-◌, ◌≤◌}
+-- The invariant: the front of the external channels and of the records below k.
+use Prim.Native.Nat.{◌+◌}
+use Rattle.rules.specs.Channels.{list_of}
 use Rattle.requests.specs.Ranks.{rank_at, IsFront}
 use Rattle.requests.proofs.records_front.Given as goal
 
 abbrev pub invariant-loop-k : goal.invariant-loop-k
-invariant-loop-k l = (l.k ≤ l.count) × IsFront (rank_at l.limits l.image l.places) (8 + l.k) l.rank l.position
-
-abbrev pub decreases-loop-k : goal.decreases-loop-k
-decreases-loop-k l = l.count - l.k
+invariant-loop-k l = IsFront (rank_at l.limits l.image (list_of l.places.all)) (8 + l.k) l.front.rank l.front.position

@@ -1,6 +1,7 @@
 use mathlib.Core.Path.{refl, sym, ◌∙◌}
 use Prim.Native.Nat.{◌+◌, ◌*◌, ◌<◌}
 use native.Mathlib.Omega.{arith}
+use Rattle.rules.specs.Sources.{sources}
 use Rattle.rules.specs.Requests.{first}
 use Rattle.rules.proofs.WinnerLaws.{won_somebody}
 use Rattle.requests.specs.Ranks.{found_of_kind, found_at_level, scanned}
@@ -8,57 +9,52 @@ use Rattle.requests.proofs.FirstLaws.{first_more, first_hit, first_end}
 use Rattle.requests.proofs.FrontLaws.{found_none, found_here, found_below, level-below, found-start}
 use Rattle.requests.proofs.scan.Goals as goal
 
-pub scan-init : goal.scan-init
-scan-init c =
-    let a = c.requires.3 in
-    (refl, omega (arith, a.top), level-below _ _ _ _ a)
+pub loop-level-init : goal.loop-level-init
+loop-level-init c = level-below _ _ _ _ c.requires
 
 pub loop-kind-init : goal.loop-kind-init
 unfolding first
-loop-kind-init c = (c.scan.invariant.0, omega arith, refl)
+loop-kind-init c = refl
 
 pub loop-kind-preserved-then-rank-front : goal.loop-kind-preserved-then-rank-front
 loop-kind-preserved-then-rank-front c =
-    let below : 2 * c.scan.level + c.loop-kind.kind < c.args.front.rank = omega (arith, c.if-rank-front.true) in
-    (c.loop-kind.invariant.0, omega arith, first_more _ _ c.loop-kind.invariant.2 (found_below _ _ _ _ c.requires.3 _ _ below))
+    let below : 2 * c.loop-level.level + c.loop-kind.kind < c.args.front.rank = omega (arith, c.if-rank-front.true) in
+    first_more _ _ c.loop-kind.invariant (found_below _ _ _ _ c.requires _ _ below)
 
 pub loop-position-init : goal.loop-position-init
-loop-position-init c =
-    let f = found-start _ _ _ _ c.requires.3 c.scan.level c.loop-kind.kind _ c.start_of-position.ensures in
-    (c.loop-kind.invariant.0, f.0, f.1)
+loop-position-init c = (found-start _ _ _ _ c.requires c.loop-level.level c.loop-kind.kind _ c.start_of-position.ensures).1
 
 pub rank_at-requires : goal.rank_at-requires
-rank_at-requires c =
-    (c.requires.0, c.requires.1, omega (arith, c.loop-position-test.true, c.requires.2))
-
-pub overflow_cast-position : goal.overflow_cast-position
-overflow_cast-position c =
-    omega (arith, c.loop-position-test.true, c.requires.2)
+unfolding sources
+rank_at-requires c = omega (arith, c.loop-position-test.true, c.count-positions.ensures.all)
 
 pub loop-position-preserved : goal.loop-position-preserved
-loop-position-preserved c =
-    (c.loop-position.invariant.0, omega arith, first_more _ _ c.loop-position.invariant.2 (found_none _ _ _ _ (λ e. c.if-rank_at-rank.false (c.rank_at.ensures ∙ e))))
+loop-position-preserved c = first_more _ _ c.loop-position.invariant (found_none _ _ _ _ (λ e. c.if-rank_at-rank.false (c.rank_at.ensures ∙ e)))
 
 pub loop-kind-preserved : goal.loop-kind-preserved
-unfolding found_of_kind
+unfolding found_of_kind sources
 loop-kind-preserved c =
-    (c.loop-position.invariant.0, omega arith, first_more _ _ c.loop-kind.invariant.2 (first_end _ _ _ c.loop-position.invariant.1 c.loop-position-test.false c.loop-position.invariant.2))
+    let start = (found-start _ _ _ _ c.requires c.loop-level.level c.loop-kind.kind _ c.start_of-position.ensures).0 in
+    let n = c.count-positions.ensures.all in
+    first_more _ _ c.loop-kind.invariant
+    (first_end _ _ _ (omega (arith, n, start, c.loop-position.auto.position-end)) (omega (arith, n, c.loop-position-test.false)) c.loop-position.invariant)
 
-pub scan-preserved : goal.scan-preserved
+pub loop-level-preserved : goal.loop-level-preserved
 unfolding found_at_level
-scan-preserved c =
-    (c.loop-kind.invariant.0, omega arith, first_more _ _ c.scan.invariant.2 (first_end _ _ _ c.loop-kind.invariant.1 c.loop-kind-test.false c.loop-kind.invariant.2))
+loop-level-preserved c =
+    first_more _ _ c.loop-level.invariant (first_end _ _ _ c.loop-kind.auto.kind-end c.loop-kind-test.false c.loop-kind.invariant)
 
-pub returns-after-scan : goal.returns-after-scan
+pub returns : goal.returns
 unfolding scanned
-returns-after-scan c = c.scan.invariant.0 ∙ sym (first_end _ _ _ c.scan.invariant.1 c.scan-test.false c.scan.invariant.2)
+returns c =
+    sym (first_end _ _ _ (omega (arith, c.requires.top, c.loop-level.auto.level-end)) c.loop-level-test.false c.loop-level.invariant)
 
 pub returns-then-rank_at-rank : goal.returns-then-rank_at-rank
-unfolding scanned found_at_level found_of_kind
+unfolding scanned found_at_level found_of_kind sources
 returns-then-rank_at-rank c =
-    let s = won_somebody c.scan.level c.loop-kind.kind c.loop-position.position in
-    c.won-winner.ensures
+    let s = won_somebody c.loop-level.level c.loop-kind.kind c.loop-position.position in
+    c.won.ensures
     ∙ sym
-    (first_hit _ 8 _ _ c.scan-test.true c.scan.invariant.2
-    (first_hit _ 2 _ _ c.loop-kind-test.true c.loop-kind.invariant.2
-    (first_hit _ _ _ _ c.loop-position-test.true c.loop-position.invariant.2 (found_here _ _ _ _ (sym c.rank_at.ensures ∙ c.if-rank_at-rank.true)) s) s) s)
+    (first_hit _ 8 _ _ c.loop-level-test.true c.loop-level.invariant
+    (first_hit _ 2 _ _ c.loop-kind-test.true c.loop-kind.invariant
+    (first_hit _ _ _ _ (omega (arith, c.loop-position-test.true, c.count-positions.ensures.all)) c.loop-position.invariant (found_here _ _ _ _ (sym c.rank_at.ensures ∙ c.if-rank_at-rank.true)) s) s) s)

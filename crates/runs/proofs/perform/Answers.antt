@@ -14,24 +14,18 @@ last_there (Some a) h = refl
 
 pub unwrap-requires : goal.unwrap-requires
 unfolding steps_of
-unwrap-requires c =
-    let s = c.requires in
-    last_there _ (answer_there _ _ _ s.0 s.1 s.4 (rw c.in-Ok.is at c.run_accepted.ensures))
+unwrap-requires c = last_there _ (answer_there _ _ _ (search rules) c.args.laid.now.places.ok c.requires c.in-Ok.ensures)
 
 pub returns-in-Ok : goal.returns-in-Ok
 unfolding steps_of
-returns-in-Ok c =
-    let s = c.requires in
-    answers-alone _ _ _ s.0 s.1 s.4 (rw c.in-Ok.is at c.run_accepted.ensures) _ (ap done c.unwrap.ensures)
+returns-in-Ok c = answers-alone _ _ _ (search rules) c.args.laid.now.places.ok c.requires c.in-Ok.ensures _ (ap done c.unwrap.ensures)
 
 pub returns-in-Err-Before : goal.returns-in-Err-Before
 unfolding steps_of
 returns-in-Err-Before c =
-    let s = c.requires in
-    answers-alone _ _ _ s.0 s.1 s.4 (rw c.in-Err-Before.is at c.run_accepted.ensures) (Err c.in-Err-Before.refusal) (search rules)
+    answers-alone _ _ _ (search rules) c.args.laid.now.places.ok c.requires (rw c.in-Err-Before.is at c.run_accepted.ensures) (Err c.in-Err-Before.refusal) (search rules)
 
 pub returns-in-Err-At : goal.returns-in-Err-At
 unfolding steps_of
 returns-in-Err-At c =
-    let s = c.requires in
-    answers-alone _ _ _ s.0 s.1 s.4 (rw c.in-Err-At.is at c.run_accepted.ensures) (Err c.in-Err-At.refusal) (search rules)
+    answers-alone _ _ _ (search rules) c.args.laid.now.places.ok c.requires (rw c.in-Err-At.is at c.run_accepted.ensures) (Err c.in-Err-At.refusal) (search rules)

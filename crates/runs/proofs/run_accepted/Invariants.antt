@@ -1,7 +1,7 @@
 -- The invariant: the run of all the words is that of what is left, after the steps done.
 use mathlib.Core.Path.{◌≡◌}
-use Prim.Native.Nat.{◌≤◌}
 use lib.ListN.{length, drop}
+use Rattle.rules.specs.Image.{image_length}
 use Rattle.rules.specs.Channels.{list_of}
 use Rattle.rules.specs.Outcomes.{state}
 use Rattle.rules.specs.Runs.{run_events, run_of}
@@ -12,6 +12,6 @@ use Rattle.runs.proofs.run_accepted.Given as goal
 abbrev pub invariant-loop-index : goal.invariant-loop-index
 invariant-loop-index l =
     let s = state l.image l.memory in
-    (l.index ≤ length l.words) × (length l.image ≡ length l.initial.image) × (length l.memory ≡ length l.initial.memory)
-    × (run_of (state l.initial.image l.initial.memory) (list_of l.all) (steps_of l.words)
-    ≡ run_from s l.index l.last (run_events s (list_of l.all) (steps_of (drop l.index l.words))))
+    let cs = list_of l.laid.places.all in
+    (length l.image ≡ image_length)
+    × (run_of (state l.initial.image l.initial.memory) cs (steps_of l.words) ≡ run_from s l.index l.last (run_events s cs (steps_of (drop l.index l.words))))

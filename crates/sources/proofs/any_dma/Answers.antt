@@ -1,28 +1,24 @@
-use mathlib.Core.Path.{sym, ◌∙◌}
+-- The external channels have no DMA enabled, so that the records decide.
+use mathlib.Core.Path.{◌≡◌, refl, ◌∙◌}
+use Prim.Native.Nat.{◌-◌}
 use native.Mathlib.Omega.{arith}
-use Rattle.rules.specs.Sources.{sources}
+use Rattle.std.specs.List.{list_any, range_with_len}
+use Rattle.std.proofs.Common.{rules, tests}
+use Rattle.std.proofs.lemmas.Iterator.{YieldsList-from_range}
+use Rattle.std.proofs.lemmas.Iterator.Search.{any_from_yields_List}
+use Rattle.rules.specs.Channels.{list_of}
+use Rattle.rules.specs.Sources.{sources, dma_enabled}
 use Rattle.rules.proofs.AnyBelow.{any_none}
-use Rattle.sources.proofs.SourceReads.{external_reads}
-use Rattle.sources.proofs.SourceLoops.{any_there, any_found, any_next, any_over}
+use Rattle.sources.proofs.SourceReads.{external_without}
+use Rattle.sources.proofs.SourceRanges.{any_range}
 use Rattle.sources.proofs.any_dma.Goals as goal
 
-pub loop-k-init : goal.loop-k-init
-unfolding sources
-loop-k-init c =
-    let n = c.source_count-end.ensures in
-    record { within = omega (arith, n); all = n; none = any_none _ 8 (λ k h. (external_reads _ _ k h).enables) }
-
-pub is_dma_enabled-requires : goal.is_dma_enabled-requires
-is_dma_enabled-requires c =
-    (c.requires.0, c.requires.1, c.requires.2, any_there _ _ _ _ c.loop-k.invariant c.loop-k-test.true)
-
-pub returns-then-is_dma_enabled : goal.returns-then-is_dma_enabled
-returns-then-is_dma_enabled c =
-    any_found _ _ _ _ c.loop-k.invariant c.loop-k-test.true (sym c.is_dma_enabled.ensures ∙ c.if-is_dma_enabled.true)
-
-pub loop-k-preserved : goal.loop-k-preserved
-loop-k-preserved c =
-    any_next _ _ _ _ c.loop-k.invariant c.loop-k-test.true (sym c.is_dma_enabled.ensures ∙ c.if-is_dma_enabled.false)
-
 pub returns : goal.returns
-returns c = any_over _ _ _ _ c.loop-k.invariant c.loop-k-test.false
+unfolding sources
+returns c =
+    let m = c.args.image.now in
+    let cs = list_of c.args.places.now.all in
+    let end = c.source_count.result in
+    let e : c.any.result ≡ list_any (dma_enabled m cs) (range_with_len 8 (end - 8))
+    = any_from_yields_List (dma_enabled m cs) _ _ _ c.any.ensures.ran (YieldsList-from_range 8 end (end - 8) refl refl) (λ x b q k. search (rules, tests)) in
+    e ∙ any_range (dma_enabled m cs) 8 (end - 8) (sources cs) (omega (arith, c.source_count.ensures)) (any_none _ 8 (external_without m cs))

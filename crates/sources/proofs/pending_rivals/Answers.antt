@@ -1,21 +1,24 @@
+-- The numbers of the range that pass the test are the sources that the definition counts.
+use mathlib.Core.Path.{◌≡◌, refl, ap, ◌∙◌}
+use Prim.Native.Nat.{ℕ}
+use lib.ListN.{length}
 use native.Mathlib.Omega.{arith}
-use Rattle.rules.specs.Demand3.{pending_of}
-use Rattle.sources.proofs.SourceLoops.{none-counted, counted-there, counted_next, counted-over}
+use Rattle.std.specs.List.{filter, range_with_len}
+use Rattle.std.proofs.Common.{rules, tests}
+use Rattle.std.proofs.lemmas.Iterator.{YieldsList-from_range}
+use Rattle.std.proofs.lemmas.Iterator.Consumers.{YieldsList-at, YieldsList-from_filter, count_from_yields_List}
+use Rattle.rules.specs.Channels.{list_of}
+use Rattle.rules.specs.Demand3.{count_below, pending_of}
+use Rattle.sources.specs.Flags.{pending_rival}
+use Rattle.sources.proofs.SourceRanges.{count_range}
 use Rattle.sources.proofs.pending_rivals.Goals as goal
-
-pub loop-k-init : goal.loop-k-init
-loop-k-init c = none-counted _ _ _ c.source_count-end.ensures
-
-pub pending_rival-n-requires : goal.pending_rival-n-requires
-pending_rival-n-requires c =
-    (c.requires.0, c.requires.1, c.requires.2, c.requires.3, counted-there _ _ _ _ _ c.loop-k.invariant c.loop-k-test.true)
-
-pub loop-k-preserved : goal.loop-k-preserved
-loop-k-preserved c = counted_next _ _ _ _ _ c.loop-k.invariant _ c.pending_rival-n.ensures c.loop-k-test.true
-
-pub overflow_add-n : goal.overflow_add-n
-overflow_add-n c = omega (arith, (loop-k-preserved c).few)
 
 pub returns : goal.returns
 unfolding pending_of
-returns c = counted-over _ _ _ _ _ c.loop-k.invariant c.loop-k-test.false
+returns c =
+    let test = pending_rival c.args.image.now (list_of c.args.places.now.all) c.args.ours in
+    let end = c.source_count.result in
+    let e : c.count.result ≡ length (filter test (range_with_len 0 end))
+    = count_from_yields_List _ _ c.count.ensures.ran
+    (YieldsList-from_filter _ test (YieldsList-at c.filter.ensures.source (YieldsList-from_range 0 end end refl (omega arith))) c.filter.ensures.closure (λ x b q k. search (rules, tests))) in
+    e ∙ count_range test end ∙ ap (λ (n : ℕ). count_below n test) c.source_count.ensures

@@ -1,24 +1,23 @@
-use mathlib.Core.Path.{refl, sym, ◌∙◌}
+-- Some number of the range passes the test where some source does.
+use mathlib.Core.Path.{◌≡◌, refl, ◌∙◌}
 use native.Mathlib.Omega.{arith}
+use Rattle.std.specs.List.{list_any, range_with_len}
+use Rattle.std.proofs.Common.{rules, tests, zero-add}
+use Rattle.std.proofs.lemmas.Iterator.{YieldsList-from_range}
+use Rattle.std.proofs.lemmas.Iterator.Search.{any_from_yields_List}
+use Rattle.rules.specs.Channels.{list_of}
+use Rattle.rules.specs.Sources.{sources}
 use Rattle.rules.specs.Bounds.{any_below}
-use Rattle.sources.proofs.SourceLoops.{any_there, any_found, any_next, any_over}
+use Rattle.sources.proofs.SourceRanges.{any_range}
+use Rattle.handlers.specs.Handled.{source_changes}
 use Rattle.handlers.proofs.changes.any_changed.Goals as goal
 
-pub loop-k-init : goal.loop-k-init
-unfolding any_below
-loop-k-init c = record { within = omega arith; all = c.source_count-k-end.ensures; none = refl }
-
-pub source_changed-requires : goal.source_changed-requires
-source_changed-requires c =
-    (c.requires.0, c.requires.1, c.requires.2, c.requires.3, any_there _ _ _ _ c.loop-k.invariant c.loop-k-test.true)
-
-pub returns-then-source_changed : goal.returns-then-source_changed
-returns-then-source_changed c =
-    any_found _ _ _ _ c.loop-k.invariant c.loop-k-test.true (sym c.source_changed.ensures ∙ c.if-source_changed.true)
-
-pub loop-k-preserved : goal.loop-k-preserved
-loop-k-preserved c =
-    any_next _ _ _ _ c.loop-k.invariant c.loop-k-test.true (sym c.source_changed.ensures ∙ c.if-source_changed.false)
-
 pub returns : goal.returns
-returns c = any_over _ _ _ _ c.loop-k.invariant c.loop-k-test.false
+unfolding any_below
+returns c =
+    let cs = list_of c.args.places.now.all in
+    let test = source_changes cs c.args.before.now c.args.after.now c.args.basis in
+    let end = c.source_count.result in
+    let e : c.any.result ≡ list_any test (range_with_len 0 end)
+    = any_from_yields_List test _ _ _ c.any.ensures.ran (YieldsList-from_range 0 end end refl (omega arith)) (λ x b q k. search (rules, tests)) in
+    e ∙ any_range test 0 end (sources cs) (zero-add end ∙ c.source_count.ensures) refl

@@ -1,24 +1,25 @@
-use mathlib.Core.Path.{ap, ◌∙◌}
+-- The numbers of the range that pass the test are the sources that the definition counts.
+use mathlib.Core.Path.{◌≡◌, refl, ap, ◌∙◌}
+use Prim.Native.Nat.{ℕ}
+use lib.ListN.{length}
 use native.Mathlib.Omega.{arith}
-use Rattle.rules.specs.Runs.{one_if}
-use Rattle.rules.proofs.Counting.{byte_one}
+use Rattle.std.specs.List.{filter, range_with_len}
+use Rattle.std.proofs.Common.{rules, tests}
+use Rattle.std.proofs.lemmas.Iterator.{YieldsList-from_range}
+use Rattle.std.proofs.lemmas.Iterator.Consumers.{YieldsList-at, YieldsList-from_filter, count_from_yields_List}
+use Rattle.rules.specs.Channels.{list_of}
+use Rattle.rules.specs.Demand3.{count_below}
 use Rattle.rules.specs.Handlers.{raised}
-use Rattle.sources.proofs.SourceLoops.{none-counted, counted-there, counted_next, counted-over}
+use Rattle.sources.proofs.SourceRanges.{count_range}
+use Rattle.handlers.specs.Handled.{raises_rival}
 use Rattle.handlers.proofs.changes.raised_rivals.Goals as goal
-
-pub loop-k-init : goal.loop-k-init
-loop-k-init c = none-counted _ _ _ c.source_count-k-end.ensures
-
-pub is_raised_rival-requires : goal.is_raised_rival-requires
-is_raised_rival-requires c =
-    (c.requires.0, c.requires.1, c.requires.2, c.requires.3, c.requires.4, c.requires.5, counted-there _ _ _ _ _ c.loop-k.invariant c.loop-k-test.true)
-
-pub loop-k-preserved : goal.loop-k-preserved
-loop-k-preserved c = counted_next _ _ _ _ _ c.loop-k.invariant _ (c.from-n.ensures ∙ byte_one c.is_raised_rival.result ∙ ap one_if c.is_raised_rival.ensures) c.loop-k-test.true
-
-pub overflow_add-n : goal.overflow_add-n
-overflow_add-n c = omega (arith, (loop-k-preserved c).few)
 
 pub returns : goal.returns
 unfolding raised
-returns c = counted-over _ _ _ _ _ c.loop-k.invariant c.loop-k-test.false
+returns c =
+    let test = raises_rival c.args.start.now (list_of c.args.places.now.all) c.args.ours c.args.before.now c.args.after.now in
+    let end = c.source_count.result in
+    let e : c.count.result ≡ length (filter test (range_with_len 0 end))
+    = count_from_yields_List _ _ c.count.ensures.ran
+    (YieldsList-from_filter _ test (YieldsList-at c.filter.ensures.source (YieldsList-from_range 0 end end refl (omega arith))) c.filter.ensures.closure (λ x b q k. search (rules, tests))) in
+    e ∙ count_range test end ∙ ap (λ (n : ℕ). count_below n test) c.source_count.ensures
