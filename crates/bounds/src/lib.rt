@@ -50,9 +50,10 @@ pub fn is_rival_trigger(
     requires { ours < sources (list_of places.now.all) }
     ensures { result ≡ rival_triggered image.now (list_of places.now.all) ours step a }
 {
-    selected_in(a)
-        && target_of(step).is_some_and(|k| k < source_count(places)
-            && is_rival(image, places, ours, k))
+    let Some(k) = target_of(step) else {
+        return false;
+    };
+    selected_in(a) && k < source_count(places) && is_rival(image, places, ours, k)
 }
 
 // H, E and the bound. A step counts twelve at most in E, and a lent slice of words has fewer than 2^60, so that the sum fits.

@@ -1,7 +1,7 @@
 // The two writes that change a part of a byte of the image.
 #![tactic(auto)]
 
-ghost use Rattle.std.specs.Prelude.{◌≡◌, ◌<◌};
+ghost use Rattle.std.specs.Prelude.{◌≡◌, ◌<◌, length};
 ghost use Rattle.rules.specs.Image.{image_length, bit_of, put, put_CPL};
 
 use bits::put_bit;
@@ -9,8 +9,8 @@ use rules::{CICR, IMAGE_LENGTH};
 
 // Makes bit k of a byte 1 or 0.
 #[tactic(auto, unfolding(rules::specs::Image::put))]
-pub fn put_at(image: &mut [u8; IMAGE_LENGTH], at: usize, k: u8, v: bool)
-    requires { (at < image_length) × (k < 8) }
+pub fn put_at(image: &mut [u8], at: usize, k: u8, v: bool)
+    requires { (at < length image.old) × (k < 8) }
     ensures { image.new ≡ put image.old (bit_of at k) v }
 {
     image[at] = put_bit(image[at], k, v);

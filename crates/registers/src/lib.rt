@@ -13,7 +13,7 @@ ghost use Rattle.channels.specs.Laid.{bits_in, place_by};
 
 use channels::{Masks, page_byte};
 use rules::{Answer, EIPR, IMAGE_LENGTH, Losses, MARK, NICR, PPR, Place, ROW_COUNT, Refusal};
-use table::{existing_bits, reset_bytes, reset_masks, row_place};
+use table::{existing_bits, reset_at, row_place, value_at};
 
 // Where a register of page 0 goes.
 #[tactic(auto, unfolding(rules::specs::Registers::page_zero))]
@@ -128,11 +128,9 @@ pub fn write(
 pub fn reset(image: &mut [u8; IMAGE_LENGTH]) -> Answer
     ensures { outcome (Ok result) image.new ≡ reset_of image.old }
 {
-    let masks = reset_masks();
-    let bytes = reset_bytes();
-    for (k, (mask, value)) in masks.iter().zip(&bytes).enumerate() {
+    for k in 0..ROW_COUNT {
         let byte = &mut image[row_place(k)];
-        *byte = (*byte & !mask) | value;
+        *byte = (*byte & !reset_at(k)) | value_at(k);
     }
     image[MARK] = 0;
     Answer::Reset

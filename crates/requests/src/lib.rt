@@ -212,20 +212,22 @@ fn scan(image: &[u8; IMAGE_LENGTH], places: &Places, limits: Limits, front: Fron
     ensures { result ≡ scanned (rank_at limits image.now (list_of places.now.all)) (sources (list_of places.now.all)) }
 {
     let positions = EXTERNALS + places.count();
-    for level in front.rank / 2..8 {
-        for kind in 0..2 {
-            let rank = 2 * level + kind;
-            if rank < front.rank {
-                continue;
-            }
-            for position in start_of(rank, front)..positions {
-                if rank_at(image, places, limits, position) == rank {
-                    return won(level, kind, position as u8);
+    'scan: {
+        for level in front.rank / 2..8 {
+            for kind in 0..2 {
+                let rank = 2 * level + kind;
+                if rank < front.rank {
+                    continue;
+                }
+                for position in start_of(rank, front)..positions {
+                    if rank_at(image, places, limits, position) == rank {
+                        break 'scan won(level, kind, position as u8);
+                    }
                 }
             }
         }
+        None
     }
-    None
 }
 
 // The bits of all IDCRs, gathered: a bit that is 0 here is 0 in each of them. The mark, which is 0 where an arbitration comes to this, stands in for

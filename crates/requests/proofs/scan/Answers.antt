@@ -44,9 +44,9 @@ unfolding found_at_level
 loop-level-preserved c =
     first_more _ _ c.loop-level.invariant (first_end _ _ _ c.loop-kind.auto.kind-end c.loop-kind-test.false c.loop-kind.invariant)
 
-pub returns : goal.returns
+pub returns-after-loop-level : goal.returns-after-loop-level
 unfolding scanned
-returns c =
+returns-after-loop-level c =
     sym (first_end _ _ _ (omega (arith, c.requires.top, c.loop-level.auto.level-end)) c.loop-level-test.false c.loop-level.invariant)
 
 pub returns-then-rank_at-rank : goal.returns-then-rank_at-rank
