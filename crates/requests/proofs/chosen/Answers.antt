@@ -6,6 +6,3 @@ use Rattle.requests.proofs.chosen.Goals as goal
 pub returns-then-front-eq-NO_RANK : goal.returns-then-front-eq-NO_RANK
 returns-then-front-eq-NO_RANK c =
     sym (scanned_nobody _ _ _ _ (rw c.limits_of-limits.ensures at c.front_of-front.ensures) c.if-front-eq-NO_RANK.true)
-
-pub returns : goal.returns
-returns c = rw c.limits_of-limits.ensures at c.scan.ensures

@@ -1,14 +1,10 @@
 -- The smallest set HL bit is a count of trailing zeros, and the word that the code makes has the same count.
 use mathlib.Core.Path.{sym, ap, ◌∙◌}
 use Prim.Native.Nat.{ℕ}
-use mir.Facts.{Fits-lit, Fits-le}
-use lib.Count.{count_trailing_zeros, trailing_le}
+use lib.Count.{count_trailing_zeros}
 use Rattle.rules.specs.Image.{at, NICR}
 use Rattle.rules.proofs.RestoredLaws.{restored_trailing, trailing_word}
 use Rattle.arbiter.proofs.nesting.restored_level.Goals as goal
-
-pub overflow_cast-result : goal.overflow_cast-result
-overflow_cast-result c = Fits-le (trailing_le 32 _) (Fits-lit tt)
 
 pub returns : goal.returns
 returns c =
