@@ -23,8 +23,6 @@ use Rattle.rules.specs.Bounds.{accepted_bound, bound_of, Bounded}
 use Rattle.rules.specs.HandlerBounds.{accepted_handler_bound, handler_bound_of}
 use Rattle.rules.specs.Encodings.{steps_of, told, told_run, told_wait, told_bound}
 use Rattle.rules.specs.Promises.{Does, Runs, Waits, Bounds, HandlerBounds}
-use Rattle.rules.proofs.Refusals.{lent_sound}
-use Rattle.rules.proofs.WaitLaws.{accepted-lent, accepted-source}
 use Rattle.runs.proofs.RunSteps.{promised}
 
 -- what is led to by the verdict v is led to by an equal one

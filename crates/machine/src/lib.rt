@@ -11,7 +11,7 @@ ghost use Rattle.rules.specs.Promises.{Does, Reads, Writes, Triggers, Arbitrates
 
 use bounds::bound_accepted;
 use channels::{Laid, Places};
-use dispatch::act;
+use dispatch::{act, decode};
 use handlers::handler_bound_accepted;
 use rules::{
     Answer, Bound, Channels, MOST_MEMORY, NoBound, Refusal, Run, RunRefusal, Step, Trigger,
@@ -121,11 +121,7 @@ pub fn perform(
 ) -> Result<Answer, Refusal>
     ensures { DoesWord (state image.old memory.old) (list_of all) word result (state image.new memory.new) }
 {
-    let image = image.as_mut_array().ok_or(OTHER_LENGTH)?;
-    let mut laid = Laid::empty();
-    laid.lay(all)?;
-    memory_verdict(memory)?;
-    runs::perform(image, memory, &laid, word)
+    one_step(image, all, memory, decode(word))
 }
 
 // A run: what is lent is checked once, then the steps are done one after another up to the first refused.

@@ -1,17 +1,14 @@
 -- Each refusal is the definition's, in its order; past them the register is read.
-use mathlib.Core.Path.{◌≡◌, refl, sym, ap, ◌∙◌}
+use mathlib.Core.Path.{◌≡◌, refl, ap}
 use native.Mathlib.Omega.{arith}
 use Rattle.std.specs.Prelude.{Some, None, Ok, Err}
 use Rattle.std.proofs.lemmas.Option.{MatchOption-at_some, MatchOption-at_none}
 use Rattle.std.proofs.lemmas.Result.{err_from_is_err_and, MatchResult-at_ok, MatchResult-at_err}
 use Rattle.rules.specs.declared.Refusal.TheVariants as refusal
-use Rattle.rules.specs.Outcomes.{Answered, accepted, alone, outcome, state}
+use Rattle.rules.specs.Outcomes.{Answered, alone, outcome}
 use Rattle.rules.specs.Steps.{act_of}
-use Rattle.rules.specs.Encodings.{told_run, told_wait}
 use Rattle.rules.proofs.Refusals.{lent_length, lent_list, lent-accepted}
-use Rattle.rules.proofs.WaitLaws.{lent-first, wait-by_source}
-use Rattle.runs.proofs.RunSteps.{promised}
-use Rattle.machine.proofs.LentLaws.{lent-by_memory, does-by, run-refuses, wait-refuses, bounds_by, handler_bounds_by}
+use Rattle.machine.proofs.LentLaws.{does-by}
 use Rattle.machine.proofs.read.Goals as goal
 
 pub returns-in_err-image : goal.returns-in_err-image
