@@ -34,11 +34,11 @@ fn readme_is_short() {
     assert_eq!(long, None);
 }
 
-/// The documents of `docs/`, by their paths. docs/PORT.md and docs/DESIGN-PASS.md are records of one change each, which begin with commits.
+/// The documents of `docs/`, by their paths. docs/PORT.md, docs/DESIGN-PASS.md and docs/LOOK-BACK.md are records of one change each.
 fn documents() -> Vec<String> {
     let files = fs::read_dir(root().join("docs")).expect("docs/");
     let names = files.map(|file| file.expect("a file").file_name().into_string().expect("a name"));
-    let names = names.filter(|name| name.ends_with(".md") && !["PORT.md", "DESIGN-PASS.md"].contains(&name.as_str()));
+    let names = names.filter(|name| name.ends_with(".md") && !["PORT.md", "DESIGN-PASS.md", "LOOK-BACK.md"].contains(&name.as_str()));
     names.map(|name| format!("docs/{name}")).collect()
 }
 
