@@ -1,6 +1,5 @@
 // What an interrupt that has won gets.
 ghost use Rattle.std.specs.Prelude.{◌≡◌, ◌<◌};
-ghost use Rattle.rules.specs.Channels.{list_of};
 ghost use Rattle.rules.specs.Sources.{sources};
 ghost use Rattle.rules.specs.Arbitration.{vector_of, cleared};
 ghost use Rattle.arbiter.specs.Raised.{Acknowledges};
@@ -13,8 +12,8 @@ use rules::{Answer, CICR, EIPR, EIVR, EXTERNALS, IEN, IMAGE_LENGTH, IP};
 // EIVR's upper half plus 2k, or IVR with bit 0 cleared.
 #[tactic(auto, unfolding(rules::specs::Arbitration::vector_of, rules::specs::Sources::sources))]
 fn vector_of(image: &[u8; IMAGE_LENGTH], places: &Places, source: u8) -> u8
-    requires { source < sources (list_of places.now.all) }
-    ensures { result ≡ vector_of image.now (list_of places.now.all) source }
+    requires { source < sources places.now.all.now }
+    ensures { result ≡ vector_of image.now places.now.all.now source }
 {
     let s = usize::from(source);
     if s < EXTERNALS {
@@ -27,8 +26,8 @@ fn vector_of(image: &[u8; IMAGE_LENGTH], places: &Places, source: u8) -> u8
 // Clears the source's EIPR or IP bit.
 #[tactic(auto, unfolding(rules::specs::Arbitration::cleared, rules::specs::Sources::pending_bit, rules::specs::Sources::sources))]
 fn clear_pending(image: &mut [u8; IMAGE_LENGTH], places: &Places, source: u8)
-    requires { source < sources (list_of places.now.all) }
-    ensures { image.new ≡ cleared image.old (list_of places.now.all) source }
+    requires { source < sources places.now.all.now }
+    ensures { image.new ≡ cleared image.old places.now.all.now source }
 {
     let s = usize::from(source);
     if s < EXTERNALS {
@@ -46,8 +45,8 @@ pub(crate) fn acknowledge(
     source: u8,
     level: u8,
 ) -> Answer
-    requires { (source < sources (list_of places.now.all)) × (level < 8) }
-    ensures { Acknowledges image.old (list_of places.now.all) source level result image.new }
+    requires { (source < sources places.now.all.now) × (level < 8) }
+    ensures { Acknowledges image.old places.now.all.now source level result image.new }
 {
     let vector = vector_of(image, places, source);
     nest(image, level);

@@ -7,7 +7,6 @@ mod triggers;
 
 ghost use Rattle.std.specs.Prelude.{◌≡◌};
 ghost use Rattle.rules.specs.Image.{in_service};
-ghost use Rattle.rules.specs.Channels.{list_of};
 ghost use Rattle.rules.specs.Outcomes.{state, outcome};
 ghost use Rattle.rules.specs.Triggers.{trigger_of};
 ghost use Rattle.rules.specs.Arbitration.{top_level, entered_top, arbitrate_of};
@@ -32,7 +31,7 @@ pub fn trigger(
     places: &Places,
     event: Trigger,
 ) -> Result<Answer, Refusal>
-    ensures { outcome result image.new ≡ trigger_of image.old (list_of places.now.all) event }
+    ensures { outcome result image.new ≡ trigger_of image.old places.now.all.now event }
 {
     match event {
         Trigger::Pin { pin, direction } => pin_edge(image, pin, direction),
@@ -78,7 +77,7 @@ pub fn arbitrate(
     memory: &mut [u8],
     places: &Places,
 ) -> Result<Answer, Refusal>
-    ensures { outcome result (state image.new memory.new) ≡ arbitrate_of (state image.old memory.old) (list_of places.now.all) }
+    ensures { outcome result (state image.new memory.new) ≡ arbitrate_of (state image.old memory.old) places.now.all.now }
 {
     if in_service(image) {
         return Ok(Answer::Nothing);

@@ -3,7 +3,6 @@
 
 ghost use Rattle.std.specs.Prelude.{◌≡◌, ◌<◌};
 ghost use Rattle.rules.specs.Image.{image_length, bit_of};
-ghost use Rattle.rules.specs.Channels.{list_of};
 ghost use Rattle.rules.specs.Triggers.{edge};
 ghost use Rattle.arbiter.specs.Raised.{Raises, Fires, FiresIn};
 
@@ -88,7 +87,7 @@ pub(crate) fn channel_request(
     places: &Places,
     number: u32,
 ) -> Result<Answer, Refusal>
-    ensures { FiresIn image.old (list_of places.now.all) (Trigger.Request number) result image.new }
+    ensures { FiresIn image.old places.now.all.now (Trigger.Request number) result image.new }
 {
     let k = number as usize;
     if places.count() <= k {

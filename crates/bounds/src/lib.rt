@@ -5,12 +5,11 @@
 mod targets;
 
 ghost use Rattle.std.specs.Prelude.{◌≡◌, not, ◌&&◌, ◌<◌, ◌≤◌};
-ghost use Rattle.rules.specs.Channels.{list_of};
 ghost use Rattle.rules.specs.Outcomes.{is_refused};
 ghost use Rattle.rules.specs.Sources.{sources};
-ghost use Rattle.rules.specs.Demand3.{is_call, H};
+ghost use Rattle.rules.specs.Demand3.{is_call, rival, H};
 ghost use Rattle.rules.specs.Bounds.{source_premises, start_premises, bounding};
-ghost use Rattle.bounds.specs.Followed.{rival_triggered, first_disabled, steps_bound, words_bound, Decides};
+ghost use Rattle.bounds.specs.Followed.{target_of, target_among, rival_triggered, first_disabled, steps_bound, words_bound, Decides};
 
 use arbiter::in_service;
 use bits::has_bit;
@@ -38,8 +37,21 @@ fn first_disabled(first: Option<usize>, i: usize, step: Step, enabled: bool) -> 
     first
 }
 
-// Whether a step, by its answer, was a trigger of an unmasked source outranking ours on this image. A source that was triggered is there; that it is,
-// is tested all the same, since `is_rival` asks it and this function does not know where the answer comes from.
+// Whether the source that a step triggers, if any, is an unmasked one outranking ours on this image. A source that was triggered is there; that it is, is
+// tested all the same, since `is_rival` asks it and this function does not know whether the step was done.
+fn is_rival_target(image: &[u8; IMAGE_LENGTH], places: &Places, ours: usize, step: Step) -> bool
+    requires { ours < sources places.now.all.now }
+    ensures { result ≡ target_among places.now.all.now (rival image.now places.now.all.now ours) (target_of step) }
+{
+    let Some(k) = target_of(step) else {
+        return false;
+    };
+    k < source_count(places) && is_rival(image, places, ours, k)
+}
+
+// Whether a step, by its answer, was a trigger of an unmasked source outranking ours on this image. Most steps are none, and their answers tell so at once,
+// in the caller's loop.
+#[inline(always)]
 pub fn is_rival_trigger(
     image: &[u8; IMAGE_LENGTH],
     places: &Places,
@@ -47,19 +59,16 @@ pub fn is_rival_trigger(
     step: Step,
     a: Result<Answer, Refusal>,
 ) -> bool
-    requires { ours < sources (list_of places.now.all) }
-    ensures { result ≡ rival_triggered image.now (list_of places.now.all) ours step a }
+    requires { ours < sources places.now.all.now }
+    ensures { result ≡ rival_triggered image.now places.now.all.now ours step a }
 {
-    let Some(k) = target_of(step) else {
-        return false;
-    };
-    selected_in(a) && k < source_count(places) && is_rival(image, places, ours, k)
+    selected_in(a) && is_rival_target(image, places, ours, step)
 }
 
 // H, E and the bound. A step counts twelve at most in E, and a lent slice of words has fewer than 2^60, so that the sum fits.
 pub fn within(image: &[u8; IMAGE_LENGTH], places: &Places, ours: usize, triggers: usize) -> Bound
-    requires { (ours < sources (list_of places.now.all)) × (triggers ≤ 0xc000000000000000) }
-    ensures { Ok result ≡ bounding (H image.now (list_of places.now.all) ours) triggers }
+    requires { (ours < sources places.now.all.now) × (triggers ≤ 0xc000000000000000) }
+    ensures { Ok result ≡ bounding (H image.now places.now.all.now ours) triggers }
 {
     let outranking = pending_rivals(image, places, ours);
     Bound {
@@ -77,8 +86,8 @@ fn followed(
     ours: usize,
     words: &[u64],
 ) -> Result<Bound, NoBound>
-    requires { ours < sources (list_of laid.now.places.all) }
-    ensures { result ≡ steps_bound image.now (list_of laid.now.places.all) ours words.now }
+    requires { ours < sources laid.now.places.all.now }
+    ensures { result ≡ steps_bound image.now laid.now.places.all.now ours words.now }
 {
     let mut copy = *image;
     let mut disabled = None;
@@ -102,8 +111,8 @@ fn followed(
 // The premises on the source, or the first of them that fails.
 #[tactic(auto, unfolding(rules::specs::Bounds::source_premises))]
 fn source_premises(image: &[u8; IMAGE_LENGTH], places: &Places, ours: usize) -> Result<(), NoBound>
-    requires { ours < sources (list_of places.now.all) }
-    ensures { Decides (source_premises image.now (list_of places.now.all) ours) result }
+    requires { ours < sources places.now.all.now }
+    ensures { Decides (source_premises image.now places.now.all.now ours) result }
 {
     if !is_pending(image, places, ours) {
         return Err(NoBound::NotPending);
@@ -124,8 +133,8 @@ pub fn start_premises(
     places: &Places,
     source: u32,
 ) -> Result<(), NoBound>
-    requires { source < sources (list_of places.now.all) }
-    ensures { Decides (start_premises image.now (list_of places.now.all) source) result }
+    requires { source < sources places.now.all.now }
+    ensures { Decides (start_premises image.now places.now.all.now source) result }
 {
     let cicr = image[CICR];
     if has_bit(cicr, IAM) {
@@ -150,8 +159,8 @@ pub fn bound_accepted(
     source: u32,
     words: &[u64],
 ) -> Result<Bound, NoBound>
-    requires { source < sources (list_of laid.now.places.all) }
-    ensures { result ≡ words_bound image.now (list_of laid.now.places.all) source words.now }
+    requires { source < sources laid.now.places.all.now }
+    ensures { result ≡ words_bound image.now laid.now.places.all.now source words.now }
 {
     start_premises(image, &laid.places, source)?;
     followed(image, laid, source as usize, words)

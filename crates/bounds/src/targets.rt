@@ -24,7 +24,7 @@ fn is_selected(effect: Effect) -> bool
 pub(crate) fn selected_in(a: Result<Answer, Refusal>) -> bool
     ensures { result ≡ selected_in a }
 {
-    match a.map(kind_of) {
+    match kind_of(a) {
         Ok(AnswerKind::Triggered(maskable)) => is_selected(maskable),
         _ => false,
     }

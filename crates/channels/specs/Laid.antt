@@ -1,10 +1,10 @@
 -- A channel list laid out in two arrays, as the steps read it: no step looks a record up.
 -- Assumes nothing.
-use Rattle.std.specs.Prelude.{◌≡◌, true, cond, List, [], ℕ, ◌+◌, ◌-◌, ◌≤◌, ◌<◌, eqb, length, get_or, replicate, Option, None}
+use Rattle.std.specs.Prelude.{◌≡◌, cond, List, [], ℕ, ◌+◌, ◌-◌, ◌≤◌, ◌<◌, eqb, length, get_or, replicate, Option, None}
 use Rattle.rules.specs.declared.Channel.{Channel}
 use Rattle.rules.specs.declared.Place.{Place}
-use Rattle.rules.specs.Image.{Image, image_length, page_byte, MARK}
-use Rattle.rules.specs.Channels.{most_records, record_at, idcr_byte, ivr_byte, dcpr_byte, dapr_byte, data_byte, list_ok}
+use Rattle.rules.specs.Image.{page_byte, MARK}
+use Rattle.rules.specs.Channels.{most_records, record_at, idcr_byte, ivr_byte, dcpr_byte, dapr_byte, data_byte}
 use Rattle.rules.specs.Registers.{At, records_place}
 use Rattle.channels.specs.declared.RecordBytes.{RecordBytes}
 

@@ -10,61 +10,57 @@ use crate::{MASKS, RecordBytes, lay_list, no_masks, no_places};
 use rules::{Channel, Channels, MOST_RECORDS, Refusal};
 
 // The list of no records.
-#[tactic(auto, unfolding(rules::specs::Channels::list_of))]
-fn no_records() -> Channels
-    ensures { list_of result ≡ [] }
+fn no_records() -> &'static [Channel]
+    ensures { result.now ≡ [] }
 {
-    let blank = Channel {
-        page: 0,
-        idcr: 0,
-        ivr: 0,
-        dcpr: 0,
-        dapr: 0,
-        io: 0,
-        direction: 0,
-    };
-    Channels {
-        items: [blank; MOST_RECORDS],
-        count: 0,
-    }
+    &[]
 }
 
-// What a read or a write reads of the list: where the row of each page stands, and the rows.
+// The records of a list of at most twelve.
+fn records(all: &Channels) -> &[Channel]
+    requires { all.now.count ≤ most_records }
+    ensures { result.now ≡ list_of all.now }
+{
+    &all.items[..all.count]
+}
+
+// What a read or a write reads of the list: where the row of each page stands, and the rows. The list itself is only spoken of, so it is not copied; it
+// stands last, since beside its length, where that is 0, the compiler would clear the rows by a call of `memset`, which C would have to link.
 #[derive(Drop)]
-pub struct Masks {
-    pub all: Channels,
+pub struct Masks<'a> {
     pub rows: [u8; MASKS],
-    pub ghost ok: { list_ok (list_of all) ≡ true },
-    pub ghost laid: { LaidMasks (list_of all) rows },
+    pub all: &'a [Channel],
+    pub ghost ok: { list_ok all.now ≡ true },
+    pub ghost laid: { LaidMasks all.now rows },
 }
 
-impl Masks {
+impl<'a> Masks<'a> {
     // Those of no records.
     fn empty() -> Self
-        ensures { (list_of result.all ≡ []) × (result.rows ≡ no_masks) }
+        ensures { (result.all.now ≡ []) × (result.rows ≡ no_masks) }
     {
         Masks {
-            all: no_records(),
             rows: no_masks(),
+            all: no_records(),
         }
     }
 }
 
 // What a trigger or an arbitration reads of it: the bytes of each record's registers, and how many records there are.
 #[derive(Drop)]
-pub struct Places {
-    pub all: Channels,
+pub struct Places<'a> {
+    pub all: &'a [Channel],
     pub records: [RecordBytes; MOST_RECORDS],
     pub count: usize,
-    pub ghost ok: { list_ok (list_of all) ≡ true },
-    pub ghost laid: { LaidPlaces (list_of all) records count },
+    pub ghost ok: { list_ok all.now ≡ true },
+    pub ghost laid: { LaidPlaces all.now records count },
 }
 
 #[tactic(auto, using(rules::proofs::ChannelLaws::list_short))]
-impl Places {
+impl<'a> Places<'a> {
     // Those of no records.
     fn empty() -> Self
-        ensures { (list_of result.all ≡ []) × (result.records ≡ no_places) × (result.count ≡ 0) }
+        ensures { (result.all.now ≡ []) × (result.records ≡ no_places) × (result.count ≡ 0) }
     {
         Places {
             all: no_records(),
@@ -75,7 +71,7 @@ impl Places {
 
     // How many records there are.
     pub fn count(&self) -> usize
-        ensures all { result ≡ length (list_of self.now.all) }
+        ensures all { result ≡ length self.now.all.now }
         ensures few { result ≤ most_records }
     {
         self.count
@@ -84,8 +80,8 @@ impl Places {
     // The bytes of record k.
     #[tactic(auto, using(rules::proofs::ChannelLaws::list_short, crate::proofs::LaidLaws::before_mark))]
     pub fn record(&self, k: usize) -> RecordBytes
-        requires { k < length (list_of self.now.all) }
-        ensures place { result ≡ bytes_of (record_at (list_of self.now.all) k) }
+        requires { k < length self.now.all.now }
+        ensures place { result ≡ bytes_of (record_at self.now.all.now k) }
         ensures within { BeforeMark result }
     {
         self.records[k]
@@ -93,8 +89,8 @@ impl Places {
 
     // The byte of its IDCR.
     pub fn idcr(&self, k: usize) -> usize
-        requires { k < length (list_of self.now.all) }
-        ensures place { result ≡ idcr_byte (record_at (list_of self.now.all) k) }
+        requires { k < length self.now.all.now }
+        ensures place { result ≡ idcr_byte (record_at self.now.all.now k) }
         ensures within { result < image_length }
     {
         usize::from(self.record(k).idcr)
@@ -103,16 +99,16 @@ impl Places {
 
 // Both, of one list.
 #[derive(Drop)]
-pub struct Laid {
-    pub masks: Masks,
-    pub places: Places,
-    pub ghost same: { list_of masks.all ≡ list_of places.all },
+pub struct Laid<'a> {
+    pub masks: Masks<'a>,
+    pub places: Places<'a>,
+    pub ghost same: { masks.all.now ≡ places.all.now },
 }
 
-impl Laid {
+impl<'a> Laid<'a> {
     // The list of no records, laid out.
     pub fn empty() -> Self
-        ensures { Empty (list_of result.places.all) result.masks.rows result.places.records result.places.count }
+        ensures { Empty result.places.all.now result.masks.rows result.places.records result.places.count }
     {
         Laid {
             masks: Masks::empty(),
@@ -122,24 +118,24 @@ impl Laid {
 
     // Lays a list out in place of the empty one, where it is within the rules. A constructor that returns it in a `Result` copies the arrays, 200
     // instructions a call.
-    pub fn lay(&mut self, all: Channels) -> Result<(), Refusal>
-        requires { Empty (list_of self.old.places.all) self.old.masks.rows self.old.places.records self.old.places.count }
+    pub fn lay(&mut self, all: &'a Channels) -> Result<(), Refusal>
+        requires { Empty self.old.places.all.now self.old.masks.rows self.old.places.records self.old.places.count }
         ensures { MatchResult result
-            (λ _. (list_of self.new.masks.all ≡ list_of all) × (list_of self.new.places.all ≡ list_of all))
-            (λ e. (e ≡ Refusal.List) × (list_ok (list_of all) ≡ false)) }
+            (λ _. (self.new.masks.all.now ≡ list_of all.now) × (self.new.places.all.now ≡ list_of all.now))
+            (λ e. (e ≡ Refusal.List) × (list_ok (list_of all.now) ≡ false)) }
     {
         if all.count == 0 {
             return Ok(());
         }
         let masks = &mut self.masks;
         let places = &mut self.places;
-        if !lay_list(all, &mut masks.rows, &mut places.records) {
+        if !lay_list(*all, &mut masks.rows, &mut places.records) {
             masks.rows = no_masks();
             places.records = no_places();
             return Err(Refusal::List);
         }
-        masks.all = all;
-        places.all = all;
+        masks.all = records(all);
+        places.all = masks.all;
         places.count = all.count;
         Ok(())
     }

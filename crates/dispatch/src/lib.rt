@@ -4,8 +4,7 @@
 mod words;
 
 ghost use Rattle.std.specs.Prelude.{◌≡◌};
-ghost use Rattle.rules.specs.Channels.{list_of};
-ghost use Rattle.rules.specs.Outcomes.{state, outcome, kind_of, acknowledges};
+ghost use Rattle.rules.specs.Outcomes.{state, outcome, kind_of, answered_kind, acknowledges};
 ghost use Rattle.rules.specs.Steps.{act_of};
 ghost use Rattle.rules.specs.Runs.{is_arbitration, one_if};
 
@@ -21,7 +20,7 @@ pub fn act(
     laid: &Laid,
     step: Step,
 ) -> Result<Answer, Refusal>
-    ensures { outcome result (state image.new memory.new) ≡ act_of (state image.old memory.old) (list_of laid.now.places.all) step }
+    ensures { outcome result (state image.new memory.new) ≡ act_of (state image.old memory.old) laid.now.places.all.now step }
 {
     match step {
         Step::Read(register) => registers::read(image, &laid.masks, register),
@@ -35,7 +34,7 @@ pub fn act(
 }
 
 // What is asked of an answer, by one look at all of them.
-pub fn kind_of(a: Answer) -> AnswerKind
+fn kind(a: Answer) -> AnswerKind
     ensures { result ≡ kind_of a }
 {
     match a {
@@ -43,6 +42,14 @@ pub fn kind_of(a: Answer) -> AnswerKind
         Answer::Interrupt { source, .. } => AnswerKind::Acknowledged(source),
         _ => AnswerKind::Plain,
     }
+}
+
+// The same of what a step answers: a refusal is its own.
+#[tactic(auto, unfolding(rules::specs::Outcomes::answered_kind))]
+pub fn kind_of(a: Result<Answer, Refusal>) -> Result<AnswerKind, Refusal>
+    ensures { result ≡ answered_kind a }
+{
+    a.map(kind)
 }
 
 // Whether a step is an arbitration.
@@ -60,11 +67,11 @@ pub fn arbitrations(step: Step) -> usize
 }
 
 // Whether an answer acknowledges a source: as an interrupt, not by DMA.
-pub fn acknowledged(a: Answer, source: u32) -> bool
-    ensures { result ≡ acknowledges source (Ok a) }
+pub fn acknowledged(a: Result<Answer, Refusal>, source: u32) -> bool
+    ensures { result ≡ acknowledges source a }
 {
     match kind_of(a) {
-        AnswerKind::Acknowledged(k) => u32::from(k) == source,
+        Ok(AnswerKind::Acknowledged(k)) => u32::from(k) == source,
         _ => false,
     }
 }

@@ -2,7 +2,6 @@
 // pending.
 ghost use Rattle.std.specs.Prelude.{◌≡◌, ◌<◌};
 ghost use Rattle.std.specs.List.{find};
-ghost use Rattle.rules.specs.Channels.{list_of};
 ghost use Rattle.rules.specs.Sources.{sources};
 ghost use Rattle.rules.specs.HandlerBounds.{changes, bases};
 ghost use Rattle.handlers.specs.Handled.{source_changes, any_source_changes, broken_write, raises_rival, raised_rivals};
@@ -31,8 +30,8 @@ fn source_changed(
     basis: Basis,
     k: usize,
 ) -> bool
-    requires { k < sources (list_of places.now.all) }
-    ensures { result ≡ source_changes (list_of places.now.all) before.now after.now basis k }
+    requires { k < sources places.now.all.now }
+    ensures { result ≡ source_changes places.now.all.now before.now after.now basis k }
 {
     match basis {
         Basis::Mask => is_unmasked(after, places, k) != is_unmasked(before, places, k),
@@ -51,7 +50,7 @@ fn any_changed(
     places: &Places,
     basis: Basis,
 ) -> bool
-    ensures { result ≡ any_source_changes (list_of places.now.all) before.now after.now basis }
+    ensures { result ≡ any_source_changes places.now.all.now before.now after.now basis }
 {
     (0..source_count(places)).any(|k| source_changed(before, after, places, basis, k))
 }
@@ -65,8 +64,8 @@ fn changed(
     ours: usize,
     basis: Basis,
 ) -> bool
-    requires { ours < sources (list_of places.now.all) }
-    ensures { result ≡ changes (list_of places.now.all) ours before.now after.now basis }
+    requires { ours < sources places.now.all.now }
+    ensures { result ≡ changes places.now.all.now ours before.now after.now basis }
 {
     match basis {
         Basis::Pending => is_pending(before, places, ours) & !is_pending(after, places, ours),
@@ -89,8 +88,8 @@ fn first_basis(
     places: &Places,
     ours: usize,
 ) -> Option<Basis>
-    requires { ours < sources (list_of places.now.all) }
-    ensures { result ≡ find (changes (list_of places.now.all) ours before.now after.now) bases }
+    requires { ours < sources places.now.all.now }
+    ensures { result ≡ find (changes places.now.all.now ours before.now after.now) bases }
 {
     BASES
         .iter()
@@ -106,8 +105,8 @@ pub(crate) fn first_changed(
     ours: usize,
     index: usize,
 ) -> Result<(), NoBound>
-    requires { ours < sources (list_of places.now.all) }
-    ensures { result ≡ broken_write (list_of places.now.all) ours before.now after.now index }
+    requires { ours < sources places.now.all.now }
+    ensures { result ≡ broken_write places.now.all.now ours before.now after.now index }
 {
     match first_basis(before, after, places, ours) {
         Some(basis) => Err(NoBound::Changed { basis, index }),
@@ -124,8 +123,8 @@ fn is_raised_rival(
     ours: usize,
     k: usize,
 ) -> bool
-    requires { (ours < sources (list_of places.now.all)) × (k < sources (list_of places.now.all)) }
-    ensures { result ≡ raises_rival start.now (list_of places.now.all) ours before.now after.now k }
+    requires { (ours < sources places.now.all.now) × (k < sources places.now.all.now) }
+    ensures { result ≡ raises_rival start.now places.now.all.now ours before.now after.now k }
 {
     !is_pending(before, places, k)
         && is_pending(after, places, k)
@@ -140,8 +139,8 @@ pub(crate) fn raised_rivals(
     places: &Places,
     ours: usize,
 ) -> usize
-    requires { ours < sources (list_of places.now.all) }
-    ensures { result ≡ raised_rivals start.now (list_of places.now.all) ours before.now after.now }
+    requires { ours < sources places.now.all.now }
+    ensures { result ≡ raised_rivals start.now places.now.all.now ours before.now after.now }
 {
     (0..source_count(places))
         .filter(|&k| is_raised_rival(start, before, after, places, ours, k))

@@ -5,7 +5,6 @@
 mod changes;
 
 ghost use Rattle.std.specs.Prelude.{◌≡◌, true, ◌<◌};
-ghost use Rattle.rules.specs.Channels.{list_of};
 ghost use Rattle.rules.specs.Sources.{sources};
 ghost use Rattle.rules.specs.Handlers.{is_write};
 ghost use Rattle.rules.specs.Encodings.{decode_of};
@@ -85,8 +84,8 @@ fn follow_write(
     laid: &Laid,
     at: StepAt,
 ) -> Seen
-    requires { (at.ours < sources (list_of laid.now.places.all)) × (is_write (decode_of at.word) ≡ true) }
-    ensures { Follows start.now copy.old (list_of laid.now.places.all) at.ours (decode_of at.word) at.index result copy.new }
+    requires { (at.ours < sources laid.now.places.all.now) × (is_write (decode_of at.word) ≡ true) }
+    ensures { Follows start.now copy.old laid.now.places.all.now at.ours (decode_of at.word) at.index result copy.new }
 {
     let before = *copy;
     let answer = perform_alone(copy, laid, at.word);
@@ -111,8 +110,8 @@ fn follow(
     laid: &Laid,
     at: StepAt,
 ) -> Seen
-    requires { at.ours < sources (list_of laid.now.places.all) }
-    ensures { Follows start.now copy.old (list_of laid.now.places.all) at.ours (decode_of at.word) at.index result copy.new }
+    requires { at.ours < sources laid.now.places.all.now }
+    ensures { Follows start.now copy.old laid.now.places.all.now at.ours (decode_of at.word) at.index result copy.new }
 {
     let step = decode(at.word);
     if is_file_write(step) {
@@ -145,8 +144,8 @@ fn followed(
     source: u32,
     words: &[u64],
 ) -> Result<Bound, NoBound>
-    requires { source < sources (list_of laid.now.places.all) }
-    ensures { result ≡ steps_bound image.now (list_of laid.now.places.all) source words.now }
+    requires { source < sources laid.now.places.all.now }
+    ensures { result ≡ steps_bound image.now laid.now.places.all.now source words.now }
 {
     let ours = source as usize;
     let mut copy = *image;
@@ -156,10 +155,8 @@ fn followed(
         let seen = follow(image, &mut copy, laid, at);
         seen.broken?;
         triggers += seen.more;
-        if let Ok(a) = seen.answer {
-            if acknowledged(a, source) {
-                return Ok(within(image, &laid.places, ours, triggers));
-            }
+        if acknowledged(seen.answer, source) {
+            return Ok(within(image, &laid.places, ours, triggers));
         }
     }
     Ok(within(image, &laid.places, ours, triggers))
@@ -172,8 +169,8 @@ pub fn handler_bound_accepted(
     source: u32,
     words: &[u64],
 ) -> Result<Bound, NoBound>
-    requires { source < sources (list_of laid.now.places.all) }
-    ensures { result ≡ words_bound image.now (list_of laid.now.places.all) source words.now }
+    requires { source < sources laid.now.places.all.now }
+    ensures { result ≡ words_bound image.now laid.now.places.all.now source words.now }
 {
     start_premises(image, &laid.places, source)?;
     followed(image, laid, source, words)

@@ -11,7 +11,7 @@ ghost use Rattle.rules.specs.Promises.{Does, Reads, Writes, Triggers, Arbitrates
 
 use bounds::bound_accepted;
 use channels::{Laid, Places};
-use dispatch::{act, decode};
+use dispatch::act;
 use handlers::handler_bound_accepted;
 use rules::{
     Answer, Bound, Channels, MOST_MEMORY, NoBound, Refusal, Run, RunRefusal, Step, Trigger,
@@ -35,7 +35,7 @@ fn memory_verdict(memory: &[u8]) -> Result<(), Refusal>
 
 // A source that is not there is refused with 4.
 fn source_verdict(places: &Places, source: u32) -> Result<(), Refusal>
-    ensures { result ≡ refused_unless (ltb source (sources (list_of places.now.all))) Refusal.Number accepted }
+    ensures { result ≡ refused_unless (ltb source (sources places.now.all.now)) Refusal.Number accepted }
 {
     if (source as usize) < source_count(places) {
         return Ok(());
@@ -54,7 +54,7 @@ fn one_step(
 {
     let image = image.as_mut_array().ok_or(OTHER_LENGTH)?;
     let mut laid = Laid::empty();
-    laid.lay(all)?;
+    laid.lay(&all)?;
     memory_verdict(memory)?;
     act(image, memory, &laid, step)
 }
@@ -73,7 +73,7 @@ pub fn read(image: &[u8], all: Channels, register: u32) -> Result<Answer, Refusa
 {
     let image = image.as_array().ok_or(OTHER_LENGTH)?;
     let mut laid = Laid::empty();
-    laid.lay(all)?;
+    laid.lay(&all)?;
     registers::read(image, &laid.masks, register)
 }
 
@@ -112,7 +112,7 @@ pub fn reset(image: &mut [u8], all: Channels) -> Result<Answer, Refusal>
     step_alone(image, all, Step::Reset)
 }
 
-// The step that a word stands for.
+// The step that a word stands for: a run of it alone, so that the archive has the steps' code once, in the loop of runs.
 pub fn perform(
     image: &mut [u8],
     all: Channels,
@@ -121,7 +121,11 @@ pub fn perform(
 ) -> Result<Answer, Refusal>
     ensures { DoesWord (state image.old memory.old) (list_of all) word result (state image.new memory.new) }
 {
-    one_step(image, all, memory, decode(word))
+    let image = image.as_mut_array().ok_or(OTHER_LENGTH)?;
+    let mut laid = Laid::empty();
+    laid.lay(&all)?;
+    memory_verdict(memory)?;
+    runs::perform(image, memory, &laid, word)
 }
 
 // A run: what is lent is checked once, then the steps are done one after another up to the first refused.
@@ -135,7 +139,7 @@ pub fn run(
 {
     let image = image.as_mut_array().ok_or(OTHER_LENGTH)?;
     let mut laid = Laid::empty();
-    laid.lay(all)?;
+    laid.lay(&all)?;
     memory_verdict(memory)?;
     run_accepted(image, memory, &laid, words)
 }
@@ -152,7 +156,7 @@ pub fn wait(
 {
     let image = image.as_mut_array().ok_or(OTHER_LENGTH)?;
     let mut laid = Laid::empty();
-    laid.lay(all)?;
+    laid.lay(&all)?;
     memory_verdict(memory)?;
     source_verdict(&laid.places, source)?;
     wait_accepted(image, memory, &laid, source, words)
@@ -164,7 +168,7 @@ pub fn bound(image: &[u8], all: Channels, source: u32, words: &[u64]) -> Result<
 {
     let image = image.as_array().ok_or(OTHER_LENGTH)?;
     let mut laid = Laid::empty();
-    laid.lay(all)?;
+    laid.lay(&all)?;
     source_verdict(&laid.places, source)?;
     bound_accepted(image, &laid, source, words)
 }
@@ -180,7 +184,7 @@ pub fn handler_bound(
 {
     let image = image.as_array().ok_or(OTHER_LENGTH)?;
     let mut laid = Laid::empty();
-    laid.lay(all)?;
+    laid.lay(&all)?;
     source_verdict(&laid.places, source)?;
     handler_bound_accepted(image, &laid, source, words)
 }

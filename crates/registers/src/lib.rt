@@ -5,7 +5,6 @@ mod table;
 
 ghost use Rattle.std.specs.Prelude.{◌≡◌, cond, ◌≤◌, eqb};
 ghost use Rattle.rules.specs.Image.{page_byte};
-ghost use Rattle.rules.specs.Channels.{list_of};
 ghost use Rattle.rules.specs.Outcomes.{outcome};
 ghost use Rattle.rules.specs.Registers.{page_zero, place_of, read_of, stored_byte, lost_bits, write_of, reset_of, view_verdict};
 ghost use Rattle.rules.specs.Promises.{Views};
@@ -51,7 +50,7 @@ fn place_in_row(masks: &Masks, row: u8, page: u8, register: u8) -> Option<Place>
 // Where a register number goes, with the page that PPR selects.
 #[tactic(auto, unfolding(rules::specs::Registers::place_of))]
 fn place_of(image: &[u8; IMAGE_LENGTH], masks: &Masks, register: u32) -> Option<Place>
-    ensures { result ≡ place_of image.now (list_of masks.now.all) register }
+    ensures { result ≡ place_of image.now masks.now.all.now register }
 {
     match register {
         0..=239 => {
@@ -76,7 +75,7 @@ fn place_of(image: &[u8; IMAGE_LENGTH], masks: &Masks, register: u32) -> Option<
 // Reads a register: the stored byte with absent bits as 0.
 #[tactic(auto, using(crate::proofs::Bounds::place_in_image), unfolding(rules::specs::Registers::read_of))]
 pub fn read(image: &[u8; IMAGE_LENGTH], masks: &Masks, register: u32) -> Result<Answer, Refusal>
-    ensures { result ≡ read_of image.now (list_of masks.now.all) register }
+    ensures { result ≡ read_of image.now masks.now.all.now register }
 {
     let place = place_of(image, masks, register).ok_or(Refusal::Register)?;
     Ok(Answer::Byte(image[place.byte] & place.existing))
@@ -112,7 +111,7 @@ pub fn write(
     register: u32,
     value: u8,
 ) -> Result<Answer, Refusal>
-    ensures { outcome result image.new ≡ write_of image.old (list_of masks.now.all) register value }
+    ensures { outcome result image.new ≡ write_of image.old masks.now.all.now register value }
 {
     let place = place_of(image, masks, register).ok_or(Refusal::Register)?;
     let old = image[place.byte];

@@ -7,6 +7,7 @@ use mathlib.Core.List.{List}
 use Prim.Native.Nat.{ℕ, ◌+◌, ◌-◌, ◌*◌, ◌≤◌, ◌<◌}
 use native.Mathlib.Omega.{arith}
 use lib.Dec.{eqb, ltb}
+use lib.ListN.{length}
 use borrow.Author.Tests.{eq-eqb, ne_eqb, eqb-true, eqb-false, lt-ltb, le-ltb, ltb-true, ltb-false}
 use Rattle.bits.specs.Bits.{bit}
 use Rattle.bits.proofs.BitLaws.{bit-bit_and}
@@ -135,20 +136,28 @@ module _ (limits : Limits) (idcr : ℕ) where
       go true = refl
       go false = refl
 
--- the gathered bits rule every record out
-pub ruled_out : (limits : Limits) (m : Image) (cs : List Channel) (gathered : ℕ) → Gathered m cs gathered → may_request gathered ≡ false
-    → (s : ℕ) → 8 ≤ s → s < sources cs → rank_at limits m cs s ≡ no_rank
-unfolding may_request sources
-ruled_out limits m cs gathered all e s h l = sym (rank_record limits m cs s h) ∙ go (bit 5 gathered) (bit 4 gathered) (bit 3 gathered) refl refl refl e
+-- bits gathered over some bytes of the image rule each of them out as an IDCR, wherever they stand
+pub bytes_ruled_out : (limits : Limits) (m : Image) (byte : ℕ → ℕ) (n gathered : ℕ)
+    → ((k : ℕ) → k < n → (j : ℕ) → bit j gathered ≡ false → bit j (at m (byte k)) ≡ false) → may_request gathered ≡ false
+    → (k : ℕ) → k < n → rank_of limits (record_request (at m (byte k))) ≡ no_rank
+unfolding may_request
+bytes_ruled_out limits m byte n gathered all e k h = go (bit 5 gathered) (bit 4 gathered) (bit 3 gathered) refl refl refl e
   where
     idcr : ℕ
-    idcr = idcr_of m (record_of cs s)
+    idcr = at m (byte k)
 
     off : (j : ℕ) → bit j gathered ≡ false → bit j idcr ≡ false
-    off = all (s - 8) (omega arith)
+    off = all k h
 
     go : (a b d : Bool) → bit 5 gathered ≡ a → bit 4 gathered ≡ b → bit 3 gathered ≡ d → (a && (b || d)) ≡ false → rank_of limits (record_request idcr) ≡ no_rank
     go false b d q r t e = idle-none limits idcr (off 5 q)
     go true true d q r t e = absurd (false≢true (sym e))
     go true false true q r t e = absurd (false≢true (sym e))
     go true false false q r t e = masked_none limits idcr (off 4 r) (off 3 t)
+
+-- so those of the records' IDCRs rule every record out
+pub ruled_out : (limits : Limits) (m : Image) (cs : List Channel) (gathered : ℕ) → Gathered m cs gathered → may_request gathered ≡ false
+    → (s : ℕ) → 8 ≤ s → s < sources cs → rank_at limits m cs s ≡ no_rank
+unfolding sources
+ruled_out limits m cs gathered all e s h l =
+    sym (rank_record limits m cs s h) ∙ bytes_ruled_out limits m (λ k. idcr_byte (record_at cs k)) (length cs) gathered all e (s - 8) (omega arith)

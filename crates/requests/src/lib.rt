@@ -3,7 +3,6 @@
 
 ghost use Rattle.std.specs.Prelude.{◌≡◌, cond, ◌%◌, ◌<◌, eqb};
 ghost use Rattle.bits.specs.Bits.{bit};
-ghost use Rattle.rules.specs.Channels.{list_of};
 ghost use Rattle.rules.specs.Sources.{sources, external_level};
 ghost use Rattle.rules.specs.Requests.{won_by, winner_of};
 ghost use Rattle.requests.specs.Ranks.{record_request, limits_of, interrupt_rank, rank_of, external_rank, rank_at, Gathered, may_request, Lowest, IsFront, scanned};
@@ -97,8 +96,8 @@ fn external_rank(limit: u8, eiplr: u8, requesting: u8, k: u8) -> u8
 
 // The rank at a position.
 fn rank_at(image: &[u8; IMAGE_LENGTH], places: &Places, limits: Limits, position: usize) -> u8
-    requires { position < sources (list_of places.now.all) }
-    ensures { result ≡ rank_at limits image.now (list_of places.now.all) position }
+    requires { position < sources places.now.all.now }
+    ensures { result ≡ rank_at limits image.now places.now.all.now position }
 {
     if position < EXTERNALS {
         return external_rank(
@@ -160,8 +159,8 @@ fn records_front(
     limits: Limits,
     externals: Front,
 ) -> Front
-    requires { IsFront (rank_at limits image.now (list_of places.now.all)) 8 externals.rank externals.position }
-    ensures { IsFront (rank_at limits image.now (list_of places.now.all)) (sources (list_of places.now.all)) result.rank result.position }
+    requires { IsFront (rank_at limits image.now places.now.all.now) 8 externals.rank externals.position }
+    ensures { IsFront (rank_at limits image.now places.now.all.now) (sources places.now.all.now) result.rank result.position }
 {
     let mut front = externals;
     for k in 0..places.count() {
@@ -208,8 +207,8 @@ fn start_of(rank: u8, front: Front) -> usize
 // The first position of the first level and kind that has an eligible request. Ranks below the front's, and positions before it at that rank, are passed
 // over: none is there.
 fn scan(image: &[u8; IMAGE_LENGTH], places: &Places, limits: Limits, front: Front) -> Option<Winner>
-    requires { IsFront (rank_at limits image.now (list_of places.now.all)) (sources (list_of places.now.all)) front.rank front.position }
-    ensures { result ≡ scanned (rank_at limits image.now (list_of places.now.all)) (sources (list_of places.now.all)) }
+    requires { IsFront (rank_at limits image.now places.now.all.now) (sources places.now.all.now) front.rank front.position }
+    ensures { result ≡ scanned (rank_at limits image.now places.now.all.now) (sources places.now.all.now) }
 {
     let positions = EXTERNALS + places.count();
     'scan: {
@@ -233,7 +232,7 @@ fn scan(image: &[u8; IMAGE_LENGTH], places: &Places, limits: Limits, front: Fron
 // The bits of all IDCRs, gathered: a bit that is 0 here is 0 in each of them. The mark, which is 0 where an arbitration comes to this, stands in for
 // records that are not there, so that the number of looks is fixed; a mark that is set could only make the test below say yes too often.
 fn gathered_bits(image: &[u8; IMAGE_LENGTH], places: &Places) -> u8
-    ensures { Gathered image.now (list_of places.now.all) result }
+    ensures { Gathered image.now places.now.all.now result }
 {
     places.records.iter().fold(0, |gathered, record| gathered | image[record.idcr as usize])
 }
@@ -248,8 +247,8 @@ fn may_request(gathered: u8) -> bool
 
 // The front of all positions. Where the gathered bits rule every record out, none is looked at.
 fn front_of(image: &[u8; IMAGE_LENGTH], places: &Places, limits: Limits, gathered: u8) -> Front
-    requires { Gathered image.now (list_of places.now.all) gathered }
-    ensures { IsFront (rank_at limits image.now (list_of places.now.all)) (sources (list_of places.now.all)) result.rank result.position }
+    requires { Gathered image.now places.now.all.now gathered }
+    ensures { IsFront (rank_at limits image.now places.now.all.now) (sources places.now.all.now) result.rank result.position }
 {
     let externals = externals_front(limits.interrupt, image[EIPLR], image[EIPR] & image[EIMR]);
     if may_request(gathered) {
@@ -260,8 +259,8 @@ fn front_of(image: &[u8; IMAGE_LENGTH], places: &Places, limits: Limits, gathere
 
 // The winner, where something may request.
 fn chosen(image: &[u8; IMAGE_LENGTH], places: &Places, gathered: u8) -> Option<Winner>
-    requires { Gathered image.now (list_of places.now.all) gathered }
-    ensures { result ≡ scanned (rank_at (limits_of image.now) image.now (list_of places.now.all)) (sources (list_of places.now.all)) }
+    requires { Gathered image.now places.now.all.now gathered }
+    ensures { result ≡ scanned (rank_at (limits_of image.now) image.now places.now.all.now) (sources places.now.all.now) }
 {
     let limits = limits_of(image);
     let front = front_of(image, places, limits, gathered);
@@ -274,7 +273,7 @@ fn chosen(image: &[u8; IMAGE_LENGTH], places: &Places, gathered: u8) -> Option<W
 // The winner: levels from 0 up, within a level DMA before interrupt, then positions from 0 up. Where no external channel requests and no record
 // may request there is nothing to look for.
 pub fn winner_of(image: &[u8; IMAGE_LENGTH], places: &Places) -> Option<Winner>
-    ensures { result ≡ winner_of image.now (list_of places.now.all) }
+    ensures { result ≡ winner_of image.now places.now.all.now }
 {
     let gathered = gathered_bits(image, places);
     if (image[EIPR] & image[EIMR]) == 0 && !may_request(gathered) {

@@ -7,6 +7,8 @@ use Prim.Native.Nat.{ℕ}
 use borrow.Author.Tests.{eqb-true, eq-eqb}
 use Rattle.rules.specs.declared.Channel.{Channel}
 use Rattle.rules.specs.declared.Place.{Place}
+use Rattle.rules.specs.declared.Answer.{Answer}
+use Rattle.rules.specs.declared.Refusal.{Refusal}
 use Rattle.rules.specs.declared.Step.{Step}
 use Rattle.rules.specs.declared.Step.TheVariants as step
 use Rattle.rules.specs.declared.AnswerKind.TheVariants as kind
@@ -15,7 +17,7 @@ use Rattle.rules.specs.declared.Effect.{Effect}
 use Rattle.rules.specs.declared.Answer.TheVariants as answer
 use Rattle.rules.specs.declared.Trigger.{Trigger}
 use Rattle.rules.specs.Image.{Image}
-use Rattle.rules.specs.Outcomes.{is_refused, State, Outcome, kind_of, acknowledges, Answered}
+use Rattle.rules.specs.Outcomes.{is_refused, State, Outcome, kind_of, answered_kind, acknowledges, Answered}
 use Rattle.rules.specs.Registers.{place_of, read_at, read_of, write_at, write_of, reset_of}
 use Rattle.rules.specs.Triggers.{trigger_verdict, fired, trigger_of}
 use Rattle.rules.specs.Return.{return_of}
@@ -25,11 +27,13 @@ use Rattle.rules.proofs.Verdicts.{verdict_elim}
 
 -- ---- the answer
 
--- the kinds of all answers
-pub kinds : (b s l v : ℕ) (lost : Losses) (e f : Effect) (ended : Bool)
-    → map kind_of (answer.Byte b ∷ answer.Written lost ∷ answer.Triggered e f ∷ answer.Nothing ∷ answer.TopLevel ∷ answer.Interrupt s l v ∷ answer.Transferred s ended ∷ answer.Returned ∷ answer.Reset ∷ [])
-    ≡ (kind.Plain ∷ kind.Plain ∷ kind.Triggered e ∷ kind.Plain ∷ kind.Plain ∷ kind.Acknowledged s ∷ kind.Plain ∷ kind.Plain ∷ kind.Plain ∷ [])
-kinds b s l v lost e f ended = refl
+-- the kinds of all answers, and of a refusal
+pub kinds : (b s l v : ℕ) (lost : Losses) (e f : Effect) (ended : Bool) (r : Refusal)
+    → (map kind_of (answer.Byte b ∷ answer.Written lost ∷ answer.Triggered e f ∷ answer.Nothing ∷ answer.TopLevel ∷ answer.Interrupt s l v ∷ answer.Transferred s ended ∷ answer.Returned ∷ answer.Reset ∷ [])
+    ≡ (kind.Plain ∷ kind.Plain ∷ kind.Triggered e ∷ kind.Plain ∷ kind.Plain ∷ kind.Acknowledged s ∷ kind.Plain ∷ kind.Plain ∷ kind.Plain ∷ []))
+    × ((a : Answer) → answered_kind (Ok a) ≡ Ok (kind_of a))
+    × (answered_kind (Err r) ≡ Err r)
+kinds b s l v lost e f ended r = (refl, λ a. refl, refl)
 
 module _ (s : ℕ) where
   -- only an interrupt answered with the source's number acknowledges it: neither a DMA service of it nor the top level

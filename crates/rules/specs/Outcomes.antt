@@ -79,6 +79,11 @@ kind_of (answer.Transferred source ended) = kind.Plain
 kind_of answer.Returned = kind.Plain
 kind_of answer.Reset = kind.Plain
 
+-- of what a step answers: a refusal is its own
+abbrev pub answered_kind : Answered → Result AnswerKind Refusal
+answered_kind (Ok answered) = Ok (kind_of answered)
+answered_kind (Err reason) = Err reason
+
 -- a source is acknowledged by an arbitration that answers it as an interrupt
 abbrev pub kind_acknowledges : ℕ → AnswerKind → Bool
 kind_acknowledges source kind.Plain = false

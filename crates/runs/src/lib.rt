@@ -3,7 +3,6 @@
 
 ghost use Rattle.std.specs.Prelude.{◌≡◌, ◌<◌};
 ghost use Rattle.rules.specs.Image.{Fits};
-ghost use Rattle.rules.specs.Channels.{list_of};
 ghost use Rattle.rules.specs.Outcomes.{state, alone, outcome};
 ghost use Rattle.rules.specs.Steps.{act_of};
 ghost use Rattle.rules.specs.Sources.{sources};
@@ -23,7 +22,7 @@ pub fn run_accepted(
     words: &[u64],
 ) -> Result<Run, RunRefusal>
     requires { Fits memory.old }
-    ensures { outcome result (state image.new memory.new) ≡ run_of (state image.old memory.old) (list_of laid.now.places.all) (steps_of words.now) }
+    ensures { outcome result (state image.new memory.new) ≡ run_of (state image.old memory.old) laid.now.places.all.now (steps_of words.now) }
 {
     let mut last = None;
     for (index, &word) in words.iter().enumerate() {
@@ -46,7 +45,7 @@ pub fn perform(
     word: u64,
 ) -> Result<Answer, Refusal>
     requires { Fits memory.old }
-    ensures { outcome result (state image.new memory.new) ≡ act_of (state image.old memory.old) (list_of laid.now.places.all) (decode_of word) }
+    ensures { outcome result (state image.new memory.new) ≡ act_of (state image.old memory.old) laid.now.places.all.now (decode_of word) }
 {
     match run_accepted(image, memory, laid, &[word]) {
         Ok(run) => Ok(run.last.unwrap()),
@@ -61,7 +60,7 @@ pub fn perform_alone(
     laid: &Laid,
     word: u64,
 ) -> Result<Answer, Refusal>
-    ensures { outcome result (alone image.new) ≡ act_of (alone image.old) (list_of laid.now.places.all) (decode_of word) }
+    ensures { outcome result (alone image.new) ≡ act_of (alone image.old) laid.now.places.all.now (decode_of word) }
 {
     let mut none: [u8; 0] = [];
     perform(image, &mut none, laid, word)
@@ -75,15 +74,15 @@ pub fn wait_accepted(
     source: u32,
     words: &[u64],
 ) -> Result<WaitEnd, WaitRefusal>
-    requires { Fits memory.old × (source < sources (list_of laid.now.places.all)) }
-    ensures { outcome result (state image.new memory.new) ≡ wait_of (state image.old memory.old) (list_of laid.now.places.all) source (steps_of words.now) }
+    requires { Fits memory.old × (source < sources laid.now.places.all.now) }
+    ensures { outcome result (state image.new memory.new) ≡ wait_of (state image.old memory.old) laid.now.places.all.now source (steps_of words.now) }
 {
     let mut arbitrations: usize = 0;
     for (done, &word) in words.iter().enumerate() {
         match perform(image, memory, laid, word) {
             Ok(a) => {
                 arbitrations += dispatch::arbitrations(decode(word));
-                if acknowledged(a, source) {
+                if acknowledged(Ok(a), source) {
                     return Ok(WaitEnd::Acknowledged { arbitrations });
                 }
             }

@@ -3,7 +3,6 @@
 
 ghost use Rattle.std.specs.Prelude.{◌≡◌, ◌+◌, ◌*◌, ◌/◌, ◌<◌, ◌≤◌, length, slice_set};
 ghost use Rattle.rules.specs.Image.{image_length, at};
-ghost use Rattle.rules.specs.Channels.{list_of};
 ghost use Rattle.rules.specs.Outcomes.{state, outcome};
 ghost use Rattle.rules.specs.Sources.{record_of};
 ghost use Rattle.rules.specs.Transfer.{settled, last_register, moved_byte, last_pair, word_at, put_word, moved_memory, served_memory, memory_transfer, transfer_of};
@@ -18,8 +17,8 @@ use rules::{Answer, DM, EXTERNALS, IM, IMAGE_LENGTH, IP, LAST_PAIR, LAST_REGISTE
 // The bytes of the source's record.
 #[tactic(auto, unfolding(rules::specs::Sources::sources))]
 fn record_of(places: &Places, source: u8) -> RecordBytes
-    requires { OfRecord (list_of places.now.all) source }
-    ensures place { result ≡ bytes_of (record_of (list_of places.now.all) source) }
+    requires { OfRecord places.now.all.now source }
+    ensures place { result ≡ bytes_of (record_of places.now.all.now source) }
     ensures within { BeforeMark result }
 {
     places.record(usize::from(source) - EXTERNALS)
@@ -38,8 +37,8 @@ fn pair_at(image: &[u8; IMAGE_LENGTH], pointer: u16) -> usize
 // IP is cleared; at the end of a block DM is, and IP becomes IM.
 #[tactic(auto, unfolding(rules::specs::Transfer::settled))]
 fn settle(image: &mut [u8; IMAGE_LENGTH], places: &Places, source: u8, ended: bool)
-    requires { OfRecord (list_of places.now.all) source }
-    ensures { image.new ≡ settled image.old (record_of (list_of places.now.all) source) ended }
+    requires { OfRecord places.now.all.now source }
+    ensures { image.new ≡ settled image.old (record_of places.now.all.now source) ended }
 {
     let idcr = usize::from(record_of(places, source).idcr);
     if ended {
@@ -54,8 +53,8 @@ fn settle(image: &mut [u8; IMAGE_LENGTH], places: &Places, source: u8, ended: bo
 // After the move, with the new address and counter stored: a new counter of 0 ends the block.
 #[tactic(auto, unfolding(rules::specs::Transfer::finished))]
 fn finish(image: &mut [u8; IMAGE_LENGTH], places: &Places, source: u8, count: u16) -> Answer
-    requires { OfRecord (list_of places.now.all) source }
-    ensures { Finishes image.old (record_of (list_of places.now.all) source) source count result image.new }
+    requires { OfRecord places.now.all.now source }
+    ensures { Finishes image.old (record_of places.now.all.now source) source count result image.new }
 {
     let ended = count == 0;
     settle(image, places, source, ended);
@@ -75,8 +74,8 @@ struct Pair {
 // Moves a byte between the data register and Ra.
 #[tactic(auto, unfolding(rules::specs::Transfer::moved_byte))]
 fn move_byte(image: &mut [u8; IMAGE_LENGTH], places: &Places, source: u8, a: u8)
-    requires { OfRecord (list_of places.now.all) source }
-    ensures { image.new ≡ moved_byte image.old (record_of (list_of places.now.all) source) a }
+    requires { OfRecord places.now.all.now source }
+    ensures { image.new ≡ moved_byte image.old (record_of places.now.all.now source) a }
 {
     let record = record_of(places, source);
     let data = usize::from(record.data);
@@ -100,8 +99,8 @@ fn advance(image: &mut [u8; IMAGE_LENGTH], n: usize, address: u8, count: u8)
 // The transfer over a pair; what its registers become is written after the move.
 #[tactic(auto, unfolding(rules::specs::Transfer::served, rules::specs::Transfer::advanced, rules::specs::Transfer::less_one))]
 fn serve(image: &mut [u8; IMAGE_LENGTH], places: &Places, source: u8, pair: Pair) -> Answer
-    requires { OfRecord (list_of places.now.all) source × (pair.n ≤ last_register) × (pair.address ≤ last_register) }
-    ensures { Serves image.old (record_of (list_of places.now.all) source) source pair.n pair.address pair.count result image.new }
+    requires { OfRecord places.now.all.now source × (pair.n ≤ last_register) × (pair.address ≤ last_register) }
+    ensures { Serves image.old (record_of places.now.all.now source) source pair.n pair.address pair.count result image.new }
 {
     let left = pair.count.wrapping_sub(1);
     move_byte(image, places, source, pair.address);
@@ -116,8 +115,8 @@ fn register_transfer(
     places: &Places,
     source: u8,
 ) -> Result<Answer, Refusal>
-    requires { OfRecord (list_of places.now.all) source }
-    ensures { ServesRegister image.old (record_of (list_of places.now.all) source) source result image.new }
+    requires { OfRecord places.now.all.now source }
+    ensures { ServesRegister image.old (record_of places.now.all.now source) source result image.new }
 {
     let n = pair_at(image, record_of(places, source).dcpr);
     if LAST_REGISTER < n {
@@ -172,8 +171,8 @@ fn move_memory(
     source: u8,
     a: u16,
 )
-    requires { OfRecord (list_of places.now.all) source × (a < length memory.old) }
-    ensures { state image.new memory.new ≡ moved_memory (state image.old memory.old) (record_of (list_of places.now.all) source) a }
+    requires { OfRecord places.now.all.now source × (a < length memory.old) }
+    ensures { state image.new memory.new ≡ moved_memory (state image.old memory.old) (record_of places.now.all.now source) a }
 {
     let record = record_of(places, source);
     let data = usize::from(record.data);
@@ -194,8 +193,8 @@ fn serve_memory(
     source: u8,
     pairs: Pairs,
 ) -> Answer
-    requires { OfRecord (list_of places.now.all) source × (pairs.p ≤ last_pair) × (pairs.n ≤ last_pair) × (pairs.address < length memory.old) }
-    ensures { outcome (Ok result) (state image.new memory.new) ≡ served_memory (state image.old memory.old) (record_of (list_of places.now.all) source) source pairs.p pairs.n pairs.address pairs.count }
+    requires { OfRecord places.now.all.now source × (pairs.p ≤ last_pair) × (pairs.n ≤ last_pair) × (pairs.address < length memory.old) }
+    ensures { outcome (Ok result) (state image.new memory.new) ≡ served_memory (state image.old memory.old) (record_of places.now.all.now source) source pairs.p pairs.n pairs.address pairs.count }
 {
     let left = pairs.count.wrapping_sub(1);
     move_memory(image, memory, places, source, pairs.address);
@@ -212,8 +211,8 @@ fn memory_transfer(
     places: &Places,
     source: u8,
 ) -> Result<Answer, Refusal>
-    requires { OfRecord (list_of places.now.all) source }
-    ensures { outcome result (state image.new memory.new) ≡ memory_transfer (state image.old memory.old) (record_of (list_of places.now.all) source) source }
+    requires { OfRecord places.now.all.now source }
+    ensures { outcome result (state image.new memory.new) ≡ memory_transfer (state image.old memory.old) (record_of places.now.all.now source) source }
 {
     let record = record_of(places, source);
     let n = pair_at(image, record.dcpr);
@@ -246,8 +245,8 @@ pub fn transfer(
     places: &Places,
     source: u8,
 ) -> Result<Answer, Refusal>
-    requires { OfRecord (list_of places.now.all) source }
-    ensures { outcome result (state image.new memory.new) ≡ transfer_of (state image.old memory.old) (record_of (list_of places.now.all) source) source }
+    requires { OfRecord places.now.all.now source }
+    ensures { outcome result (state image.new memory.new) ≡ transfer_of (state image.old memory.old) (record_of places.now.all.now source) source }
 {
     let dcpr = usize::from(record_of(places, source).dcpr);
     if image[dcpr] % 2 == 0 {

@@ -5,7 +5,6 @@ use Prim.Native.Nat.{◌≤◌}
 use Rattle.std.specs.Prelude.{None}
 use lib.ListN.{length, drop}
 use Rattle.rules.specs.Image.{image_length}
-use Rattle.rules.specs.Channels.{list_of}
 use Rattle.rules.specs.Outcomes.{alone}
 use Rattle.rules.specs.Runs.{history}
 use Rattle.rules.specs.Demand3.{rival, H}
@@ -15,7 +14,7 @@ use Rattle.bounds.proofs.followed.Given as goal
 
 abbrev pub invariant-loop-index : goal.invariant-loop-index
 invariant-loop-index l =
-    let cs = list_of l.laid.places.all in
+    let cs = l.laid.places.all.now in
     let among = rival l.image cs l.ours in
     let h = H l.image cs l.ours in
     (l.index ≤ length l.words) × (l.triggers ≤ l.index) × (length l.copy ≡ image_length)

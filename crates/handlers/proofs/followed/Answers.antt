@@ -1,5 +1,5 @@
 use mathlib.Core.Bool.{false}
-use mathlib.Core.Path.{◌≡◌, refl, sym, ap, ◌∙◌}
+use mathlib.Core.Path.{◌≡◌, refl, sym, ◌∙◌}
 use Prim.Native.Nat.{◌≤◌}
 use native.Mathlib.Omega.{arith}
 use Rattle.std.specs.Prelude.{Ok, Err}
@@ -7,7 +7,6 @@ use Rattle.std.proofs.lemmas.Result.{err_from_is_err_and}
 use Rattle.rules.specs.Outcomes.{acknowledges}
 use Rattle.dispatch.proofs.NextSteps.{next_alone, no_word}
 use Rattle.handlers.proofs.FollowLaws.{follows_few, broken_some, broken-none, followed-start, followed_end, followed-broken, followed-last, followed_on}
-use Rattle.handlers.proofs.followed.Goals.{in-Ok+else-acknowledged, in_default}
 use Rattle.handlers.proofs.followed.Goals as goal
 
 pub returns-in_err-seen : goal.returns-in_err-seen
@@ -28,16 +27,13 @@ returns-then-acknowledged c =
     ∙ i.3
     ∙ followed-last _ _ _ _ _
     (next_alone _ _ i.2 c.args.laid.now.places.ok c.loop-index-test.true refl c.follow-seen.ensures.did) _
-    (broken-none _ (sym c.follow-seen.ensures.breaks ∙ (let held : c.follow-seen.result.broken ≡ Ok tt = grind arith in held))) (ap (acknowledges c.args.source) c.in-Ok.is ∙ sym c.acknowledged.ensures ∙ c.if-acknowledged.true)
+    (broken-none _ (sym c.follow-seen.ensures.breaks ∙ (let held : c.follow-seen.result.broken ≡ Ok tt = grind arith in held))) (sym c.acknowledged.ensures ∙ c.if-acknowledged.true)
     ∙ rw (c.within.ensures, c.follow-seen.ensures.counts))
 
 pub loop-index-preserved : goal.loop-index-preserved
 loop-index-preserved c =
     let few : c.follow-seen.result.more ≤ 12 = follows_few _ _ _ _ _ _ _ _ c.args.laid.now.places.ok c.follow-seen.ensures in
-    let kept : acknowledges c.args.source c.follow-seen.result.answer ≡ false = elim c.match-seen.branch [
-      | in-Ok+else-acknowledged w ↦ ap (acknowledges c.args.source) w.in-Ok.is ∙ sym w.acknowledged.ensures ∙ w.if-acknowledged.false
-      | in_default w ↦ ap (acknowledges c.args.source) w.in_default.is
-    ] in
+    let kept : acknowledges c.args.source c.follow-seen.result.answer ≡ false = sym c.acknowledged.ensures ∙ c.if-acknowledged.false in
     let i = c.loop-index.invariant in (
       omega arith,
       omega (arith, few),

@@ -4,7 +4,6 @@ use mathlib.Core.Path.{◌≡◌}
 use Prim.Native.Nat.{◌*◌, ◌≤◌}
 use lib.ListN.{length, drop}
 use Rattle.rules.specs.Image.{image_length}
-use Rattle.rules.specs.Channels.{list_of}
 use Rattle.rules.specs.Outcomes.{alone}
 use Rattle.rules.specs.Runs.{history}
 use Rattle.rules.specs.Demand3.{rival, H}
@@ -15,7 +14,7 @@ use Rattle.handlers.proofs.followed.Given as goal
 
 abbrev pub invariant-loop-index : goal.invariant-loop-index
 invariant-loop-index l =
-    let cs = list_of l.laid.places.all in
+    let cs = l.laid.places.all.now in
     let among = rival l.image cs l.source in
     let h = H l.image cs l.source in
     (l.index ≤ length l.words) × (l.triggers ≤ 12 * l.index) × (length l.copy ≡ image_length)

@@ -4,7 +4,7 @@ use Prim.Native.Nat.{ℕ, ◌+◌}
 use native.Mathlib.Omega.{arith}
 use Rattle.rules.specs.declared.Channel.{Channel}
 use Rattle.rules.specs.Image.{Image, at}
-use Rattle.rules.specs.Channels.{record_at, idcr_byte, list_of}
+use Rattle.rules.specs.Channels.{record_at, idcr_byte}
 use Rattle.rules.specs.Sources.{sources}
 use Rattle.requests.specs.declared.Limits.{Limits}
 use Rattle.requests.specs.Ranks.{record_request, rank_of, rank_at}
@@ -20,13 +20,13 @@ asks limits m cs k i r e d = rw e at d ∙ rank_of_record limits m cs k
 pub loop-k-preserved-then-rank-eq-NO_RANK : goal.loop-k-preserved-then-rank-eq-NO_RANK
 loop-k-preserved-then-rank-eq-NO_RANK c =
     let i = c.loop-k.invariant in
-    let e = asks c.args.limits c.args.image.now (list_of c.args.places.now.all) c.loop-k.k _ _ c.idcr.ensures.place
+    let e = asks c.args.limits c.args.image.now c.args.places.now.all.now c.loop-k.k _ _ c.idcr.ensures.place
     c.record_rank-rank.ensures in
     front_keep _ _ _ _ i _ (omega arith) (omega (arith, i.top, e, c.if-rank-eq-NO_RANK.true))
 
 pub loop-k-preserved-then-front-rank : goal.loop-k-preserved-then-front-rank
 loop-k-preserved-then-front-rank c =
-    let e = asks c.args.limits c.args.image.now (list_of c.args.places.now.all) c.loop-k.k _ _ c.idcr.ensures.place
+    let e = asks c.args.limits c.args.image.now c.args.places.now.all.now c.loop-k.k _ _ c.idcr.ensures.place
     c.record_rank-rank.ensures in
     front_keep _ _ _ _ c.loop-k.invariant _ (omega arith) (omega (arith, e, c.if-front-rank.true))
 

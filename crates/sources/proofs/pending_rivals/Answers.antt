@@ -7,7 +7,6 @@ use Rattle.std.specs.List.{filter, range_with_len}
 use Rattle.std.proofs.Common.{rules, tests}
 use Rattle.std.proofs.lemmas.Iterator.{YieldsList-from_range}
 use Rattle.std.proofs.lemmas.Iterator.Consumers.{YieldsList-at, YieldsList-from_filter, count_from_yields_List}
-use Rattle.rules.specs.Channels.{list_of}
 use Rattle.rules.specs.Demand3.{count_below, pending_of}
 use Rattle.sources.specs.Flags.{pending_rival}
 use Rattle.sources.proofs.SourceRanges.{count_range}
@@ -16,7 +15,7 @@ use Rattle.sources.proofs.pending_rivals.Goals as goal
 pub returns : goal.returns
 unfolding pending_of
 returns c =
-    let test = pending_rival c.args.image.now (list_of c.args.places.now.all) c.args.ours in
+    let test = pending_rival c.args.image.now c.args.places.now.all.now c.args.ours in
     let end = c.source_count.result in
     let e : c.count.result ≡ length (filter test (range_with_len 0 end))
     = count_from_yields_List _ _ c.count.ensures.ran

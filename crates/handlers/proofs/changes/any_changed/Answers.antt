@@ -5,7 +5,6 @@ use Rattle.std.specs.List.{list_any, range_with_len}
 use Rattle.std.proofs.Common.{rules, tests, zero-add}
 use Rattle.std.proofs.lemmas.Iterator.{YieldsList-from_range}
 use Rattle.std.proofs.lemmas.Iterator.Search.{any_from_yields_List}
-use Rattle.rules.specs.Channels.{list_of}
 use Rattle.rules.specs.Sources.{sources}
 use Rattle.rules.specs.Bounds.{any_below}
 use Rattle.sources.proofs.SourceRanges.{any_range}
@@ -15,7 +14,7 @@ use Rattle.handlers.proofs.changes.any_changed.Goals as goal
 pub returns : goal.returns
 unfolding any_below
 returns c =
-    let cs = list_of c.args.places.now.all in
+    let cs = c.args.places.now.all.now in
     let test = source_changes cs c.args.before.now c.args.after.now c.args.basis in
     let end = c.source_count.result in
     let e : c.any.result ≡ list_any test (range_with_len 0 end)

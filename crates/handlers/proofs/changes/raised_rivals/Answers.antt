@@ -7,7 +7,6 @@ use Rattle.std.specs.List.{filter, range_with_len}
 use Rattle.std.proofs.Common.{rules, tests}
 use Rattle.std.proofs.lemmas.Iterator.{YieldsList-from_range}
 use Rattle.std.proofs.lemmas.Iterator.Consumers.{YieldsList-at, YieldsList-from_filter, count_from_yields_List}
-use Rattle.rules.specs.Channels.{list_of}
 use Rattle.rules.specs.Demand3.{count_below}
 use Rattle.rules.specs.Handlers.{raised}
 use Rattle.sources.proofs.SourceRanges.{count_range}
@@ -17,7 +16,7 @@ use Rattle.handlers.proofs.changes.raised_rivals.Goals as goal
 pub returns : goal.returns
 unfolding raised
 returns c =
-    let test = raises_rival c.args.start.now (list_of c.args.places.now.all) c.args.ours c.args.before.now c.args.after.now in
+    let test = raises_rival c.args.start.now c.args.places.now.all.now c.args.ours c.args.before.now c.args.after.now in
     let end = c.source_count.result in
     let e : c.count.result ≡ length (filter test (range_with_len 0 end))
     = count_from_yields_List _ _ c.count.ensures.ran
