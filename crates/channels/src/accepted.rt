@@ -117,7 +117,8 @@ impl<'a> Laid<'a> {
     }
 
     // Lays a list out in place of the empty one, where it is within the rules. A constructor that returns it in a `Result` copies the arrays, 200
-    // instructions a call.
+    // instructions a call. In the caller's code, what is cleared of a refused list is not read again, and so is not cleared.
+    #[inline(always)]
     pub fn lay(&mut self, all: &'a Channels) -> Result<(), Refusal>
         requires { Empty self.old.places.all.now self.old.masks.rows self.old.places.records self.old.places.count }
         ensures { MatchResult result
